@@ -1,0 +1,3 @@
+pub mod ConfigOption
+pub mod Options
+pub mod Packet
