@@ -1,0 +1,13 @@
+//! The option negotiation automaton of PPP (RFC 1661 section 4), generic over a table of options. No call but
+//! `Outbox::new` takes memory.
+#![tactic(auto)]
+
+mod layer_signal;
+mod row;
+mod state;
+mod verdict;
+
+pub use layer_signal::LayerSignal;
+pub use row::{Action, Input};
+pub use state::{AutoEvent, AutoState};
+pub use verdict::Verdict;
