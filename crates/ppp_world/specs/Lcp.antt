@@ -1,0 +1,170 @@
+-- LCP's options as far as they are negotiated yet: Maximum-Receive-Unit and Magic-Number (RFC 1661 sections 6.1 and
+-- 6.4). Every other option is unknown.
+use Rattle.std.specs.Prelude.{◌≡◌, ℕ, ◌+◌, ◌*◌, ◌%◌, ◌^◌, ◌≤◌, Bool, true, false, not, ◌&&◌, ◌||◌, ◌==◌, nat_le, nat_lt, if◌then◌else◌, List, [], ◌∷◌, ◌++◌, length, map, Option, Some, None, IsTrue, find}
+use Rattle.std.specs.List.{filter, find as find_first}
+use Rattle.ppp_packet.specs.ConfigOption.{ConfigOption}
+use Rattle.ppp_packet.specs.Packet.{two_octets}
+use Rattle.ppp_auto.specs.Automaton.{four_octets}
+use Rattle.ppp_auto.specs.Judging.{has_kind}
+use Rattle.ppp_auto.specs.Table.{Table}
+use Rattle.ppp_auto.specs.declared.verdict.Verdict.{Verdict}
+use Rattle.ppp_auto.specs.declared.verdict.Verdict.TheVariants.{Good, Bad, Unknown}
+use Rattle.ppp_world.specs.LcpSettings.{LcpSettings}
+
+-- the number in octets, the highest first
+abbrev pub number_after : ℕ → List ℕ → ℕ
+number_after n [] = n
+number_after n (x ∷ xs) = number_after (n * 256 + x) xs
+
+abbrev pub number : List ℕ → ℕ
+number octets = number_after 0 octets
+
+abbrev pub mru_option : ℕ → ConfigOption
+mru_option mru = record { kind = 1; body = two_octets mru }
+
+abbrev pub magic_option : ℕ → ConfigOption
+magic_option magic = record { kind = 5; body = four_octets magic }
+
+-- the body of the first option of that kind, and of right size
+abbrev pub body_of : ℕ → ℕ → List ConfigOption → Option (List ℕ)
+body_of kind size [] = None
+body_of kind size (o ∷ os) = if (o.kind == kind) && (length o.body == size) then Some o.body else body_of kind size os
+
+abbrev pub number_or_zero : Option (List ℕ) → ℕ
+number_or_zero None = 0
+number_or_zero (Some body) = number body
+
+-- a list's Magic-Number, or 0
+abbrev pub magic_of : List ConfigOption → ℕ
+magic_of list = number_or_zero (body_of 5 4 list)
+
+-- the first of three numbers from a word on, in 32 bits, that is neither 0 nor one to avoid
+abbrev pub is_free : ℕ → ℕ → Bool
+is_free avoid n = not (n == 0) && not (n == avoid)
+
+abbrev pub pick_from : ℕ → ℕ → ℕ
+pick_from w avoid =
+    if is_free avoid w then w
+    else if is_free avoid ((w + 1) % 2 ^ 32) then (w + 1) % 2 ^ 32
+    else (w + 2) % 2 ^ 32
+
+unfoldable pub pick : ℕ → ℕ → ℕ
+pick word avoid = pick_from (word % 2 ^ 32) avoid
+
+-- ascending kinds, each with the own value
+abbrev pub mru_asked : LcpSettings → List ConfigOption
+mru_asked s = if s.mru == 1500 then [] else mru_option s.mru ∷ []
+
+abbrev pub magic_asked : LcpSettings → ℕ → List ConfigOption
+magic_asked s word = if s.magic then magic_option (pick word 0) ∷ [] else []
+
+abbrev pub initial : LcpSettings → ℕ → List ConfigOption
+initial s word = mru_asked s ++ magic_asked s word
+
+-- an MRU is good from 128 octets on
+abbrev pub is_good_mru : List ℕ → Bool
+is_good_mru body = (length body == 2) && nat_le 128 (number body)
+
+-- a Magic-Number is good that is neither 0 nor the own
+abbrev pub is_good_magic : ℕ → List ℕ → Bool
+is_good_magic own body = (length body == 4) && is_free own (number body)
+
+abbrev pub judge_mru : List ℕ → Verdict
+judge_mru body =
+    if is_good_mru body then Good
+    else if length body == 2 then Bad (mru_option 128)
+    else Bad (mru_option 1500)
+
+abbrev pub judge_magic : ℕ → List ℕ → ℕ → Verdict
+judge_magic own body word = if is_good_magic own body then Good else Bad (magic_option (pick word own))
+
+abbrev pub judge : List ConfigOption → ConfigOption → ℕ → Verdict
+judge own o word =
+    if o.kind == 1 then judge_mru o.body
+    else if o.kind == 5 then judge_magic (magic_of own) o.body word
+    else Unknown
+
+-- the body of the first option of that kind
+abbrev pub first_of_kind : ℕ → List ConfigOption → Option (List ℕ)
+first_of_kind kind [] = None
+first_of_kind kind (o ∷ os) = if o.kind == kind then Some o.body else first_of_kind kind os
+
+-- what a Nak makes of an own MRU: a value from 128 to 8,192 is taken
+abbrev pub mru_after : ConfigOption → Option (List ℕ) → ConfigOption
+mru_after last None = last
+mru_after last (Some body) = if is_good_mru body && nat_le (number body) 8192 then mru_option (number body) else last
+
+-- and of an own Magic-Number: another one is taken, or drawn
+abbrev pub magic_after : ConfigOption → Option (List ℕ) → ℕ → ConfigOption
+magic_after last None word = last
+magic_after last (Some body) word =
+    if not (length body == 4) then last
+    else if is_free (number last.body) (number body) then magic_option (number body)
+    else magic_option (pick word (number last.body))
+
+abbrev pub option_after : List ConfigOption → ℕ → ConfigOption → ConfigOption
+option_after nak word o =
+    if o.kind == 1 then mru_after o (first_of_kind 1 nak)
+    else if o.kind == 5 then magic_after o (first_of_kind 5 nak) word
+    else o
+
+abbrev pub adapt_nak : List ConfigOption → List ConfigOption → ℕ → List ConfigOption
+adapt_nak last nak word = map (option_after nak word) last
+
+-- a Reject takes the rejected kinds away
+abbrev pub adapt_reject : List ConfigOption → List ConfigOption → ℕ → List ConfigOption
+adapt_reject last reject word = filter (λ o. not (has_kind o.kind reject)) last
+
+abbrev pub lcp_table : LcpSettings → Table
+lcp_table s = record {
+  extended = true;
+  initial = initial s;
+  judge = judge;
+  missing = λ own theirs word. None;
+  adapt_nak = adapt_nak;
+  adapt_reject = adapt_reject;
+  magic = magic_of;
+}
+
+-- what may be asked for: ascending distinct kinds, an MRU from 128 to 8,192, a Magic-Number that isn't 0
+abbrev pub is_sent_mru : List ℕ → Bool
+is_sent_mru body = is_good_mru body && nat_le (number body) 8192
+
+abbrev pub is_sent_magic : List ℕ → Bool
+is_sent_magic body = (length body == 4) && not (number body == 0)
+
+abbrev pub is_sendable : List ConfigOption → Bool
+is_sendable [] = true
+is_sendable (a ∷ []) = ((a.kind == 1) && is_sent_mru a.body) || ((a.kind == 5) && is_sent_magic a.body)
+is_sendable (a ∷ b ∷ []) = ((a.kind == 1) && is_sent_mru a.body) && ((b.kind == 5) && is_sent_magic b.body)
+is_sendable (a ∷ b ∷ c ∷ rest) = false
+
+abbrev pub Sendable : List ConfigOption → Type 0
+Sendable list = IsTrue (is_sendable list)
+
+abbrev pub is_known : ConfigOption → Bool
+is_known o = (o.kind == 1) || (o.kind == 5)
+
+abbrev pub IsUnknown : ConfigOption → Type 0
+IsUnknown o = is_known o ≡ false
+
+-- whether a peer's list is allowed: each option is good against the own Magic-Number, and no kind stands twice
+abbrev pub is_fine : ℕ → ConfigOption → Bool
+is_fine own o = ((o.kind == 1) && is_good_mru o.body) || ((o.kind == 5) && is_good_magic own o.body)
+
+abbrev pub all_fine : ℕ → List ConfigOption → List ConfigOption → Bool
+all_fine own earlier [] = true
+all_fine own earlier (o ∷ os) = is_fine own o && not (has_kind o.kind earlier) && all_fine own (earlier ++ o ∷ []) os
+
+abbrev pub is_allowed : List ConfigOption → List ConfigOption → Bool
+is_allowed own theirs = all_fine (magic_of own) [] theirs
+
+abbrev pub Allows : List ConfigOption → List ConfigOption → Type 0
+Allows own theirs = IsTrue (is_allowed own theirs)
+
+-- Two lists fit where they don't have the same Magic-Number.
+abbrev pub is_compatible : List ConfigOption → List ConfigOption → Bool
+is_compatible one other = (magic_of one == 0) || not (magic_of one == magic_of other)
+
+abbrev pub Compatible : List ConfigOption → List ConfigOption → Type 0
+Compatible one other = IsTrue (is_compatible one other)

@@ -1,0 +1,2 @@
+pub mod Lcp
+pub mod LcpSettings

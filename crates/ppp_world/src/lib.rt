@@ -1,0 +1,2 @@
+//! Two ends and the queues between them, stepped by the events of a script.
+#![tactic(auto)]
