@@ -1,2 +1,6 @@
+pub mod Journal
 pub mod Lcp
 pub mod LcpSettings
+pub mod Run
+pub mod Steps
+pub mod Texts
