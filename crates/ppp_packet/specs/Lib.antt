@@ -1,3 +1,5 @@
 pub mod ConfigOption
+pub mod Discriminator
 pub mod Options
 pub mod Packet
+pub mod Readings

@@ -1,6 +1,6 @@
 -- Lists of Configuration Options in octets (RFC 1661 section 6).
-use Rattle.std.specs.Prelude.{◌≡◌, ℕ, zero, suc, ◌+◌, ◌-◌, ◌||◌, nat_lt, if◌then◌else◌, List, [], ◌∷◌, ◌++◌, length, take, drop, Option, Some, None}
-use Rattle.std.specs.Option.{option_map}
+use Rattle.std.specs.Prelude.{◌≡◌, ℕ, zero, suc, ◌+◌, ◌-◌, ◌||◌, nat_lt, if◌then◌else◌, nat_eq, List, [], ◌∷◌, ◌++◌, length, take, drop, Option, Some, None}
+use Rattle.std.specs.Option.{option_map, unwrap_or}
 use Rattle.ppp_packet.specs.ConfigOption.{ConfigOption}
 
 -- an option is its Type, its Length, which counts Type and Length too, and its body
@@ -28,3 +28,20 @@ options_in (suc most) (kind ∷ len ∷ rest) =
 
 unfoldable pub options_of : List ℕ → Option (List ConfigOption)
 options_of bytes = options_in (length bytes) bytes
+
+-- the list that octets hold that are a list of options
+unfoldable pub list_of : List ℕ → List ConfigOption
+list_of bytes = unwrap_or (options_of bytes) []
+
+-- these octets are a list of options
+abbrev pub HoldsOptions : List ℕ → Type 0
+HoldsOptions bytes = IsOptions (list_of bytes) bytes
+
+-- an option of this Type, with this body
+abbrev pub option_with : ℕ → List ℕ → ConfigOption
+option_with kind body = record { kind = kind; body = body }
+
+-- the body of the first option of that Type
+abbrev pub find_kind : ℕ → List ConfigOption → Option (List ℕ)
+find_kind kind [] = None
+find_kind kind (o ∷ os) = if nat_eq o.kind kind then Some o.body else find_kind kind os

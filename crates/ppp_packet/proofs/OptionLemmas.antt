@@ -1,0 +1,131 @@
+-- Facts on lists of options: what is written reads as the same list, and nothing else reads so.
+use Rattle.std.proofs.Common.{◌≡◌, ℕ, zero, suc, ◌+◌, ◌-◌, ◌<◌, ◌≤◌, ◌≢◌, ◌⊎◌, Bool, true, false, List, [], ◌∷◌, ◌++◌, length, take, drop, refl, sym, ◌∙◌, ap, subst, inl, inr, arith, length-append, length-drop, append_assoc}
+use Rattle.std.specs.Prelude.{Option, Some, None, ◌||◌, nat_lt, if◌then◌else◌, nat_eq, is_some, ◌↔◌, All}
+use Rattle.std.specs.Option.{option_map, unwrap_or}
+use Rattle.std.proofs.lemmas.List.{take_at, drop_at, take-append-drop, length-take-le}
+use Rattle.std.proofs.lemmas.Bool.{le-ltb, ltb-false, lt-ltb, ltb-true}
+use Rattle.std.proofs.lemmas.Bool.Decides.{nat_tests}
+use Rattle.std.proofs.lemmas.Grind.{common_steps}
+use Rattle.ppp_packet.specs.ConfigOption.{ConfigOption}
+use Rattle.ppp_packet.specs.Options.{option_octets, written, IsOptions, options_in, options_of, list_of, HoldsOptions, option_with, find_kind}
+
+pub written-append : (xs ys : List ConfigOption) → written (xs ++ ys) ≡ written xs ++ written ys
+written-append [] ys = refl
+written-append (x ∷ xs) ys = rw (written-append xs ys) (sym (append_assoc (option_octets x) (written xs) (written ys)))
+
+-- the test that a reader makes of a Length passes where the option is whole
+whole_test : (body rest : List ℕ) → (nat_lt (2 + length body) 2 || nat_lt (length (body ++ rest)) (2 + length body - 2)) ≡ false
+whole_test body rest =
+    rw (le-ltb (2 + length body) 2 (omega arith), le-ltb (length (body ++ rest)) (2 + length body - 2) (omega (arith, length-append body rest))) refl
+
+pub options_in-written : (most : ℕ) (list : List ConfigOption) → length (written list) ≤ most → options_in most (written list) ≡ Some list
+options_in-written most [] fits = refl
+options_in-written zero (o ∷ os) fits = absurd (omega arith)
+options_in-written (suc most) (o ∷ os) fits =
+    let size : length o.body ≡ 2 + length o.body - 2 = omega arith in
+    let rest : options_in most (written os) ≡ Some os = options_in-written most os (omega (arith, length-append o.body (written os))) in
+    rw (whole_test o.body (written os), take_at o.body (written os) (2 + length o.body - 2) size, drop_at o.body (written os) (2 + length o.body - 2) size, rest) refl
+
+pub options_of-written : (list : List ConfigOption) → options_of (written list) ≡ Some list
+unfolding options_of
+options_of-written list = options_in-written (length (written list)) list (omega arith)
+
+some_injective : {X : Type 0} (x y : X) → Some x ≡ Some y → x ≡ y
+some_injective x y same = cc
+
+pub written-injective : (xs ys : List ConfigOption) → written xs ≡ written ys → xs ≡ ys
+written-injective xs ys same = some_injective xs ys (sym (options_of-written xs) ∙ ap options_of same ∙ options_of-written ys)
+
+inside_map : {X Y : Type 0} (f : X → Y) (o : Option X) (y : Y) → option_map f o ≡ Some y → (x : X) × ((o ≡ Some x) × (f x ≡ y))
+inside_map f None y same = absurd (cc)
+inside_map f (Some x) y same = (x, (refl, some_injective (f x) y same))
+
+or_false : (a b : Bool) → (a || b) ≡ false → (a ≡ false) × (b ≡ false)
+or_false false b e = (refl, e)
+or_false true b e = absurd (cc)
+
+or_true : (a : Bool) → (a || true) ≡ true
+or_true false = refl
+or_true true = refl
+
+whole_step : (kind len : ℕ) (rest : List ℕ) (most : ℕ) (list : List ConfigOption) (misfit : Bool) →
+    (nat_lt len 2 || nat_lt (length rest) (len - 2)) ≡ misfit →
+    (if misfit then None else option_map (λ os. option_with kind (take (len - 2) rest) ∷ os) (options_in most (drop (len - 2) rest))) ≡ Some list →
+    ((os : List ConfigOption) → options_in most (drop (len - 2) rest) ≡ Some os → drop (len - 2) rest ≡ written os) →
+    kind ∷ len ∷ rest ≡ written list
+whole_step kind len rest most list true is same below = absurd (cc)
+whole_step kind len rest most list false is same below =
+    let found = inside_map (λ (os : List ConfigOption). option_with kind (take (len - 2) rest) ∷ os) (options_in most (drop (len - 2) rest)) list same in
+    let tests = or_false (nat_lt len 2) (nat_lt (length rest) (len - 2)) is in
+    let least : 2 ≤ len = ltb-false len 2 tests.0 in
+    let room : len - 2 ≤ length rest = ltb-false (length rest) (len - 2) tests.1 in
+    let size : 2 + length (take (len - 2) rest) ≡ len = omega (arith, length-take-le (len - 2) rest room) in
+    let behind : drop (len - 2) rest ≡ written found.0 = below found.0 found.1.0 in
+    rw (← found.1.1, size, ← behind, take-append-drop (len - 2) rest) refl
+
+pub written-options_in : (most : ℕ) (bytes : List ℕ) (list : List ConfigOption) → options_in most bytes ≡ Some list → bytes ≡ written list
+written-options_in most [] list same = ap written (some_injective [] list same)
+written-options_in zero (x ∷ xs) list same = absurd (cc)
+written-options_in (suc most) (kind ∷ []) list same = absurd (cc)
+written-options_in (suc most) (kind ∷ len ∷ rest) list same =
+    whole_step kind len rest most list _ refl same (λ os e. written-options_in most (drop (len - 2) rest) os e)
+
+pub IsOptions-options_of : (list : List ConfigOption) (bytes : List ℕ) → options_of bytes ≡ Some list → IsOptions list bytes
+unfolding options_of
+IsOptions-options_of list bytes same = written-options_in (length bytes) bytes list same
+
+pub options_of-IsOptions : (list : List ConfigOption) (bytes : List ℕ) → IsOptions list bytes → options_of bytes ≡ Some list
+options_of-IsOptions list bytes is = ap options_of is ∙ options_of-written list
+
+-- any bound that isn't below the number of octets gives the same
+options_in-same : (a b : ℕ) (bytes : List ℕ) → length bytes ≤ a → length bytes ≤ b → options_in a bytes ≡ options_in b bytes
+options_in-same a b [] in_a in_b = refl
+options_in-same zero b (x ∷ xs) in_a in_b = absurd (omega arith)
+options_in-same (suc a) zero (x ∷ xs) in_a in_b = absurd (omega arith)
+options_in-same (suc a) (suc b) (kind ∷ []) in_a in_b = refl
+options_in-same (suc a) (suc b) (kind ∷ len ∷ rest) in_a in_b =
+    rw (options_in-same a b (drop (len - 2) rest) (omega (arith, length-drop (len - 2) rest)) (omega (arith, length-drop (len - 2) rest))) refl
+
+pub options_of-cons : (o : ConfigOption) (rest : List ℕ) → options_of (option_octets o ++ rest) ≡ option_map (λ os. o ∷ os) (options_of rest)
+unfolding options_of
+options_of-cons o rest =
+    let size : length o.body ≡ 2 + length o.body - 2 = omega arith in
+    let same = options_in-same (suc (length (o.body ++ rest))) (length rest) rest (omega (arith, length-append o.body rest)) (omega arith) in
+    rw (whole_test o.body rest, take_at o.body rest (2 + length o.body - 2) size, drop_at o.body rest (2 + length o.body - 2) size, same) refl
+
+pub options_of-nil : options_of [] ≡ Some []
+unfolding options_of
+options_of-nil = refl
+
+pub options_of-short : (kind : ℕ) → options_of (kind ∷ []) ≡ None
+unfolding options_of
+options_of-short kind = refl
+
+pub options_of-misfit : (kind len : ℕ) (rest : List ℕ) → (len < 2) ⊎ (2 + length rest < len) → options_of (kind ∷ len ∷ rest) ≡ None
+unfolding options_of
+options_of-misfit kind len rest (inl low) = rw (lt-ltb len 2 low) refl
+options_of-misfit kind len rest (inr high) = rw (lt-ltb (length rest) (len - 2) (omega arith), or_true (nat_lt len 2)) refl
+
+pub list_of-read : (list : List ConfigOption) (bytes : List ℕ) → options_of bytes ≡ Some list → list_of bytes ≡ list
+unfolding list_of
+list_of-read list bytes same = rw same refl
+
+pub list_of-written : (list : List ConfigOption) → list_of (written list) ≡ list
+list_of-written list = list_of-read list (written list) (options_of-written list)
+
+pub HoldsOptions-read : (list : List ConfigOption) (bytes : List ℕ) → options_of bytes ≡ Some list → HoldsOptions bytes
+HoldsOptions-read list bytes same = rw (list_of-read list bytes same) (IsOptions-options_of list bytes same)
+
+pub options_of-HoldsOptions : (bytes : List ℕ) → HoldsOptions bytes → options_of bytes ≡ Some (list_of bytes)
+options_of-HoldsOptions bytes holds = options_of-IsOptions (list_of bytes) bytes holds
+
+-- of octets that hold a list, those behind the first option hold the rest of it
+pub HoldsOptions-behind : (o : ConfigOption) (bytes rest : List ℕ) → HoldsOptions bytes → bytes ≡ option_octets o ++ rest → (list_of bytes ≡ o ∷ list_of rest) × HoldsOptions rest
+HoldsOptions-behind o bytes rest holds begins =
+    let read = sym (options_of-cons o rest) ∙ ap options_of (sym begins) ∙ options_of-HoldsOptions bytes holds in
+    let found = inside_map (λ (os : List ConfigOption). o ∷ os) (options_of rest) (list_of bytes) read in
+    (rw (list_of-read found.0 rest found.1.0) (sym found.1.1), HoldsOptions-read found.0 rest found.1.0)
+
+pub length-written : (list : List ConfigOption) → length list ≤ length (written list)
+length-written [] = omega arith
+length-written (o ∷ os) = omega (arith, length-written os, length-append o.body (written os))

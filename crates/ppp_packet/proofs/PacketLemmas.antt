@@ -1,0 +1,46 @@
+-- Facts on packets: what is written reads as the same packet, whatever padding follows.
+use Rattle.std.proofs.Common.{◌≡◌, ℕ, zero, suc, ◌+◌, ◌-◌, ◌*◌, ◌/◌, ◌%◌, ◌<◌, ◌≤◌, ◌⊎◌, inl, inr, Bool, true, false, List, [], ◌∷◌, ◌++◌, length, take, drop, get_or, refl, sym, ◌∙◌, ap, arith, length-append, length-drop, append_assoc}
+use Rattle.std.specs.Prelude.{Option, Some, None, ◌||◌, nat_lt, if◌then◌else◌}
+use Rattle.std.proofs.lemmas.List.{take_at, take-append-drop, length-take-le}
+use Rattle.std.proofs.lemmas.Bool.{le-ltb, lt-ltb, ltb-false}
+use Rattle.ppp_packet.specs.Packet.{two_octets, packet_octets, IsPacket, RawPacket, raw_packet_of}
+
+or_true : (a : Bool) → (a || true) ≡ true
+or_true false = refl
+or_true true = refl
+
+pub raw_packet_of-packet_octets : (code id : ℕ) (rest padding : List ℕ) →
+    raw_packet_of (packet_octets code id rest ++ padding) ≡ Some (record { code = code; id = id; rest = rest })
+raw_packet_of-packet_octets code id rest padding =
+    let size : (4 + length rest) / 256 * 256 + (4 + length rest) % 256 ≡ 4 + length rest = omega arith in
+    let whole : length rest ≡ 4 + length rest - 4 = omega arith in
+    rw (size, le-ltb (4 + length rest) 4 (omega arith), le-ltb (length (rest ++ padding)) (4 + length rest - 4) (omega (arith, length-append rest padding)), take_at rest padding (4 + length rest - 4) whole) refl
+
+pub raw_packet_of-IsPacket : (code id : ℕ) (rest bytes : List ℕ) → IsPacket code id rest bytes →
+    raw_packet_of bytes ≡ Some (record { code = code; id = id; rest = rest })
+raw_packet_of-IsPacket code id rest bytes is = ap raw_packet_of is.1 ∙ raw_packet_of-packet_octets code id rest is.0
+
+pub raw_packet_of-short : (bytes : List ℕ) → length bytes < 4 → raw_packet_of bytes ≡ None
+raw_packet_of-short [] short = refl
+raw_packet_of-short (a ∷ []) short = refl
+raw_packet_of-short (a ∷ b ∷ []) short = refl
+raw_packet_of-short (a ∷ b ∷ c ∷ []) short = refl
+raw_packet_of-short (a ∷ b ∷ c ∷ d ∷ rest) short = absurd (omega arith)
+
+pub raw_packet_of-misfit : (code id high low size : ℕ) (rest : List ℕ) → size ≡ high * 256 + low → (size < 4) ⊎ (4 + length rest < size) →
+    raw_packet_of (code ∷ id ∷ high ∷ low ∷ rest) ≡ None
+raw_packet_of-misfit code id high low size rest is (inl low_size) = rw (← is, lt-ltb size 4 low_size) refl
+raw_packet_of-misfit code id high low size rest is (inr high_size) = rw (← is, lt-ltb (length rest) (size - 4) (omega arith), or_true (nat_lt size 4)) refl
+
+pub raw_packet_of-whole : (code id high low size : ℕ) (rest : List ℕ) → size ≡ high * 256 + low → 4 ≤ size → size ≤ 4 + length rest →
+    raw_packet_of (code ∷ id ∷ high ∷ low ∷ rest) ≡ Some (record { code = code; id = id; rest = take (size - 4) rest })
+raw_packet_of-whole code id high low size rest is least room = rw (← is, le-ltb size 4 least, le-ltb (length rest) (size - 4) (omega arith)) refl
+
+-- a Length of two octets
+pub IsPacket-whole : (code id high low size : ℕ) (rest : List ℕ) → size ≡ high * 256 + low → low < 256 → 4 ≤ size → size ≤ 4 + length rest →
+    IsPacket code id (take (size - 4) rest) (code ∷ id ∷ high ∷ low ∷ rest)
+IsPacket-whole code id high low size rest is octet least room =
+    let whole : 4 + length (take (size - 4) rest) ≡ size = omega (arith, length-take-le (size - 4) rest (omega arith)) in
+    let up : size / 256 ≡ high = omega arith in
+    let down : size % 256 ≡ low = omega arith in
+    (drop (size - 4) rest, rw (whole, up, down, take-append-drop (size - 4) rest) refl)

@@ -1,0 +1,16 @@
+//! What the forms of this crate promise of one another.
+
+ghost use Rattle.std.specs.Prelude.{◌≡◌, ℕ, ◌<◌, ◌≤◌, ◌↔◌, List, ◌++◌, length, Some, All};
+ghost use Rattle.ppp_packet.specs.ConfigOption.{ConfigOption};
+ghost use Rattle.ppp_packet.specs.Packet.{packet_octets, IsPacket, raw_packet_of};
+ghost use Rattle.ppp_packet.specs.Options.{written, IsOptions, options_of};
+
+/// Does nothing. Its clauses are laws: what is written is read again, whatever padding follows a packet, and
+/// what the readers answer is exactly what the forms of RFC 1661, sections 5 and 6, say.
+pub fn read_again()
+    ensures packet { (code id : ℕ) (rest padding : List ℕ) →
+        raw_packet_of (packet_octets code id rest ++ padding) ≡ Some (record { code = code; id = id; rest = rest }) }
+    ensures list { (list : List ConfigOption) → options_of (written list) ≡ Some list }
+    ensures reading { (list : List ConfigOption) (bytes : List ℕ) → (options_of bytes ≡ Some list) ↔ IsOptions list bytes }
+{
+}
