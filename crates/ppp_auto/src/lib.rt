@@ -5,9 +5,11 @@
 mod layer_signal;
 mod row;
 mod state;
+mod table;
 mod verdict;
 
 pub use layer_signal::LayerSignal;
 pub use row::{Action, Input};
 pub use state::{AutoEvent, AutoState};
+pub use table::OptionTable;
 pub use verdict::Verdict;
