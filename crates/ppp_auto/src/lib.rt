@@ -2,6 +2,7 @@
 //! `Outbox::new` takes memory.
 #![tactic(auto)]
 
+mod cell;
 mod layer_signal;
 mod row;
 mod state;
