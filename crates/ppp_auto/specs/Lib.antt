@@ -6,3 +6,4 @@ pub mod Packets
 pub mod Rows
 pub mod Table
 pub mod TwoEnds
+pub mod Views

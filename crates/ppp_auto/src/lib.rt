@@ -2,12 +2,15 @@
 //! `Outbox::new` takes memory.
 #![tactic(auto)]
 
+mod cell;
 mod layer_signal;
 mod row;
 mod state;
+mod table;
 mod verdict;
 
 pub use layer_signal::LayerSignal;
 pub use row::{Action, Input};
 pub use state::{AutoEvent, AutoState};
+pub use table::OptionTable;
 pub use verdict::Verdict;
