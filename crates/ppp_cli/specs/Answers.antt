@@ -1,0 +1,29 @@
+-- How faults and want of memory may bend a reply.
+use Rattle.std.specs.Prelude.{◌≡◌, ℕ, List, ◌++◌, ◌⊎◌, Option, Some, None, ⊤}
+use Rattle.ppp_io.specs.Told.{PutsOn}
+use Rattle.ppp_io.specs.Causes.{Rose}
+use Rattle.ppp_cli.specs.Reply.{Reply, read_fault_line}
+use Rattle.ppp_cli.specs.declared.status.Status.{Status}
+use Rattle.ppp_cli.specs.declared.status.Status.TheVariants.{Ok as Fine, BadWords, ReadFault, TooLong, BadLine, Outstanding, WriteFault, Memory, NotBuilt}
+
+-- a front of these octets is written
+abbrev pub PutsFront : Option (List ℕ) → Option (List ℕ) → List ℕ → Type 0
+PutsFront old new octets = (front : List ℕ) × (rest : List ℕ) × (front ++ rest ≡ octets) × PutsOn old new front
+
+-- The answer to what would be replied, between what the sink held and holds. A fault of reading comes in the place of
+-- the reply, with its own line. A fault of writing, or want of memory, leaves a front of what was to be written.
+abbrev pub AnswersBy : (ReadFailed : Type 0) → Reply → Status → Option (List ℕ) → Option (List ℕ) → Type 0
+AnswersBy ReadFailed reply ReadFault old new = ReadFailed × PutsOn old new read_fault_line
+AnswersBy ReadFailed reply WriteFault old new = PutsFront old new reply.octets ⊎ (ReadFailed × PutsFront old new read_fault_line)
+AnswersBy ReadFailed reply Memory old new = PutsFront old new reply.octets
+AnswersBy ReadFailed reply Fine old new = (Fine ≡ reply.status) × PutsOn old new reply.octets
+AnswersBy ReadFailed reply BadWords old new = (BadWords ≡ reply.status) × PutsOn old new reply.octets
+AnswersBy ReadFailed reply TooLong old new = (TooLong ≡ reply.status) × PutsOn old new reply.octets
+AnswersBy ReadFailed reply NotBuilt old new = (NotBuilt ≡ reply.status) × PutsOn old new reply.octets
+AnswersBy ReadFailed reply (BadLine k) old new = (BadLine k ≡ reply.status) × PutsOn old new reply.octets
+AnswersBy ReadFailed reply (Outstanding k) old new = (Outstanding k ≡ reply.status) × PutsOn old new reply.octets
+
+-- where a source that doesn't tell decides the reply, nothing is said of it
+abbrev pub Answers : (ReadFailed : Type 0) → Option Reply → Status → Option (List ℕ) → Option (List ℕ) → Type 0
+Answers ReadFailed None status old new = ⊤
+Answers ReadFailed (Some reply) status old new = AnswersBy ReadFailed reply status old new
