@@ -1,0 +1,29 @@
+-- Sources and sinks in memory, as contracts see them.
+use Rattle.std.specs.Prelude.{ℕ, List, Bool}
+
+-- left: the octets that it has still to give; chunk: the most that one read gives
+pub record SureSourceState : Type 0 where
+  pub left : List ℕ
+  pub chunk : ℕ
+
+-- failing: the numbers of the reads that fail, from 1; calls: how many reads there were; faults: how many failed
+pub record MemSourceState : Type 0 where
+  pub left : List ℕ
+  pub chunk : ℕ
+  pub failing : List ℕ
+  pub calls : ℕ
+  pub faults : ℕ
+
+-- held: the octets that it holds; room: the most that it holds; passed: more came than it has room for
+pub record SureSinkState : Type 0 where
+  pub held : List ℕ
+  pub room : ℕ
+  pub passed : Bool
+
+-- failing: the numbers of the writes that fail, from 1; calls: how many writes there were; faults: how many failed
+pub record MemSinkState : Type 0 where
+  pub held : List ℕ
+  pub room : ℕ
+  pub failing : List ℕ
+  pub calls : ℕ
+  pub faults : ℕ

@@ -1,0 +1,15 @@
+//! The outside as sources and sinks of octets. Each counts its faults, and answers one only where its count rose.
+#![tactic(auto)]
+
+mod errors;
+mod octets;
+mod sinks;
+mod sources;
+mod standard;
+mod traits;
+
+pub use errors::Memory;
+pub use sinks::{MemSink, SureSink};
+pub use sources::{MemSource, SureSource};
+pub use standard::{StdSink, StdSource};
+pub use traits::{ReadGot, Sink, Source, Wrote};
