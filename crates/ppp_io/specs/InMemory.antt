@@ -1,5 +1,5 @@
 -- Sources and sinks in memory, as contracts see them.
-use Rattle.std.specs.Prelude.{ℕ, List, Bool}
+use Rattle.std.specs.Prelude.{ℕ, List, Bool, Option, Some, None, if◌then◌else◌}
 
 -- left: the octets that it has still to give; chunk: the most that one read gives
 pub record SureSourceState : Type 0 where
@@ -19,6 +19,10 @@ pub record SureSinkState : Type 0 where
   pub held : List ℕ
   pub room : ℕ
   pub passed : Bool
+
+-- it tells what it holds only as long as no more came
+abbrev pub told_by_sure_sink : SureSinkState → Option (List ℕ)
+told_by_sure_sink s = if s.passed then None else Some s.held
 
 -- failing: the numbers of the writes that fail, from 1; calls: how many writes there were; faults: how many failed
 pub record MemSinkState : Type 0 where

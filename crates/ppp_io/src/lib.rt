@@ -13,3 +13,6 @@ pub use sinks::{MemSink, SureSink};
 pub use sources::{MemSource, SureSource};
 pub use standard::{StdSink, StdSource};
 pub use traits::{ReadGot, Sink, Source, Wrote};
+
+#[cfg(test)]
+mod tests;

@@ -1,5 +1,6 @@
 ghost use Rattle.std.specs.Prelude.{◌≡◌, ◌+◌, ◌-◌, ◌<◌, ◌≤◌, ◌↔◌, ◌⊎◌, ◌++◌, ◌||◌, Contains, IfOk, [], false, length, min, nat_lt, take, if◌then◌else◌, Some, None};
 ghost use Rattle.ppp_io.specs.Causes.{HasCause, one_more};
+ghost use Rattle.ppp_io.specs.InMemory.{told_by_sure_sink};
 ghost use Rattle.ppp_io.specs.Writes.{WriteWithin, WritePuts, WriteFits, faults_after_write};
 
 use std::alloc::Global;
@@ -58,15 +59,14 @@ impl SureSink {
 }
 
 impl Sink for SureSink {
-    ghost held = { λ s. if s.passed then None else Some s.held };
+    ghost held = { told_by_sure_sink };
 
     ghost faults = { λ _. 0 };
 
     fn write(&mut self, piece: &[u8]) -> Wrote
         requires { 0 < length piece.now }
         ensures within { WriteWithin result piece.now }
-        ensures octets { WritePuts (if self.old.passed then None else Some self.old.held)
-            (if self.new.passed then None else Some self.new.held) result piece.now }
+        ensures octets { WritePuts (told_by_sure_sink self.old) (told_by_sure_sink self.new) result piece.now }
         ensures cause { HasCause 0 0 (result ≡ Wrote.Failed) }
         ensures whole { result ≡ Wrote.Took (length piece.now) }
         ensures first { self.new.held ≡ take self.old.room (self.old.held ++ piece.now) }
