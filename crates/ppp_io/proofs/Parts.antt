@@ -1,5 +1,5 @@
--- The parts of a list that is given or kept piece by piece.
-use Rattle.std.proofs.Common.{◌≡◌, ℕ, ◌+◌, ◌-◌, ◌≤◌, List, ◌++◌, length, take, drop, sym, ◌∙◌, ap, refl, arith}
+-- The parts of a list that is given piece by piece.
+use Rattle.std.proofs.Common.{◌≡◌, ℕ, ◌+◌, List, ◌++◌, take, drop, sym}
 use Rattle.std.proofs.lemmas.List.{take-append-drop, drop-drop}
 
 -- what is left from a place on: the next piece, and what is left behind it

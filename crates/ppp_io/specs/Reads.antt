@@ -1,5 +1,5 @@
 -- What the answer of a read says.
-use Rattle.std.specs.Prelude.{◌≡◌, ℕ, ◌-◌, ◌<◌, ◌≤◌, List, [], length, take, Option, ⊤}
+use Rattle.std.specs.Prelude.{◌≡◌, ℕ, ◌<◌, ◌≤◌, List, [], length, take, Option, ⊤}
 use Rattle.ppp_io.specs.Causes.{one_more}
 use Rattle.ppp_io.specs.Told.{TakesOff, IsDrained}
 use Rattle.ppp_io.specs.declared.traits.ReadGot.{ReadGot}

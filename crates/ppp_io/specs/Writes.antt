@@ -1,5 +1,6 @@
 -- What the answer of a write says.
-use Rattle.std.specs.Prelude.{◌≡◌, ℕ, ◌-◌, ◌<◌, ◌≤◌, List, [], length, take, Option, ⊤}
+use Rattle.std.specs.Prelude.{◌≡◌, ℕ, ◌<◌, ◌≤◌, List, [], length, take, Option, ⊤}
+use Rattle.std.specs.Io.KnownBytes.{Appends, Keeps}
 use Rattle.ppp_io.specs.Causes.{one_more}
 use Rattle.ppp_io.specs.Told.{PutsOn}
 use Rattle.ppp_io.specs.declared.traits.Wrote.{Wrote}
@@ -14,6 +15,11 @@ WriteWithin Failed piece = ⊤
 abbrev pub WritePuts : Option (List ℕ) → Option (List ℕ) → Wrote → List ℕ → Type 0
 WritePuts old new (Took count) piece = PutsOn old new (take count piece)
 WritePuts old new Failed piece = PutsOn old new []
+
+-- what a writer of std holds, where it says: the octets that a write takes are appended, and at a fault it stays
+abbrev pub WriterGets : Option (List ℕ) → Option (List ℕ) → Wrote → List ℕ → Type 0
+WriterGets old new (Took count) piece = Appends old new (take count piece)
+WriterGets old new Failed piece = Keeps old new
 
 -- how many octets it takes, where it takes some
 abbrev pub WriteFits : Wrote → ℕ → Type 0

@@ -1,5 +1,4 @@
 use std::alloc::{AllocError, AllocFailed};
-
 use thiserror::Error;
 
 /// There is no memory left for what was asked. This is std's `AllocError`, under this project's name.

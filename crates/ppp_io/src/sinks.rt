@@ -3,12 +3,11 @@ ghost use Rattle.ppp_io.specs.Causes.{HasCause, one_more};
 ghost use Rattle.ppp_io.specs.InMemory.{told_by_sure_sink};
 ghost use Rattle.ppp_io.specs.Writes.{WriteWithin, WritePuts, WriteFits, faults_after_write};
 
-use std::alloc::Global;
-use std::marker::Model;
-
 use crate::errors::Memory;
 use crate::octets::{is_listed, keep};
 use crate::traits::{Sink, Wrote};
+use std::alloc::Global;
+use std::marker::Model;
 
 /// A sink in memory that never fails. It takes every piece, holds the first octets of all, as many as it has room for,
 /// and tells what it holds as long as no more came.

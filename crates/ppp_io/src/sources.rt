@@ -2,10 +2,9 @@ ghost use Rattle.std.specs.Prelude.{◌≡◌, ◌<◌, ◌↔◌, Contains, len
 ghost use Rattle.ppp_io.specs.Causes.{HasCause, one_more};
 ghost use Rattle.ppp_io.specs.Reads.{ReadWithin, ReadTakes, ReadGives, faults_after_read};
 
-use std::marker::Model;
-
 use crate::octets::{give, is_listed};
 use crate::traits::{ReadGot, Source};
+use std::marker::Model;
 
 /// A source in memory that never fails.
 #[derive(Drop)]

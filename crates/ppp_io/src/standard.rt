@@ -1,11 +1,11 @@
 ghost use Rattle.std.specs.Prelude.{◌≡◌, ◌<◌, length, None};
 ghost use Rattle.ppp_io.specs.Causes.{HasCause};
 ghost use Rattle.ppp_io.specs.Reads.{ReadWithin, ReadTakes, faults_after_read};
-ghost use Rattle.ppp_io.specs.Writes.{WriteWithin, WritePuts, faults_after_write};
-
-use std::io::{Read, Write};
+ghost use Rattle.ppp_io.specs.Writes.{WriteWithin, WritePuts, WriterGets, faults_after_write};
 
 use crate::traits::{ReadGot, Sink, Source, Wrote};
+use std::io::{Read, Write};
+use std::marker::Model;
 
 /// A source over a reader of std. It tells what its reader tells, which over a real file or socket is nothing.
 #[derive(Drop)]
@@ -14,37 +14,42 @@ pub struct StdSource<R: Read> {
     faults: u64,
 }
 
+impl<R: Read> Model for StdSource<R> {
+    ghost use Rattle.ppp_io.specs.Counted.{Counted};
+
+    ghost Value = { Counted R };
+
+    ghost view = { λ s. record { inner = s.reader; faults = s.faults } };
+}
+
 impl<R: Read> StdSource<R> {
     /// Reads from `reader`, and has counted no fault.
     pub fn new(reader: R) -> StdSource<R>
-        ensures left { ⟦<StdSource<R> as Source>⟧.left result ≡ R.remaining reader }
-        ensures faults { ⟦<StdSource<R> as Source>⟧.faults result ≡ 0 }
+        ensures { result ≡ record { inner = reader; faults = 0 } }
     {
         StdSource { reader, faults: 0 }
     }
 
     /// How many reads failed, up to the greatest `u64`.
     pub fn faults(&self) -> u64
-        ensures { result ≡ ⟦<StdSource<R> as Source>⟧.faults self.now }
+        ensures { result ≡ self.now.faults }
     {
         self.faults
     }
 }
 
 impl<R: Read> Source for StdSource<R> {
-    ghost left = { λ s. R.remaining s.reader };
+    ghost left = { λ s. R.remaining s.inner };
 
     ghost faults = { λ s. s.faults };
 
+    // A reader that gives nothing has ended.
     fn read(&mut self, buf: &mut [u8]) -> ReadGot
         requires { 0 < length buf.old }
         ensures within { ReadWithin result buf.new }
-        ensures octets { let left = ⟦<StdSource<R> as Source>⟧.left in
-            ReadTakes (left self.old) (left self.new) result buf.new }
-        ensures cause { let faults = ⟦<StdSource<R> as Source>⟧.faults in
-            HasCause (faults self.old) (faults self.new) (result ≡ ReadGot.Failed) }
-        ensures faults { let faults = ⟦<StdSource<R> as Source>⟧.faults in
-            faults self.new ≡ faults_after_read result (faults self.old) }
+        ensures octets { ReadTakes (R.remaining self.old.inner) (R.remaining self.new.inner) result buf.new }
+        ensures cause { HasCause self.old.faults self.new.faults (result ≡ ReadGot.Failed) }
+        ensures faults { self.new.faults ≡ faults_after_read result self.old.faults }
     {
         match self.reader.read(buf) {
             Ok(0) => ReadGot::End,
@@ -57,25 +62,32 @@ impl<R: Read> Source for StdSource<R> {
     }
 }
 
-/// A sink over a writer of std. It doesn't tell what its writer holds.
+/// A sink over a writer of std. As a sink it doesn't tell what it holds.
 #[derive(Drop)]
 pub struct StdSink<W: Write> {
     writer: W,
     faults: u64,
 }
 
+impl<W: Write> Model for StdSink<W> {
+    ghost use Rattle.ppp_io.specs.Counted.{Counted};
+
+    ghost Value = { Counted W };
+
+    ghost view = { λ s. record { inner = s.writer; faults = s.faults } };
+}
+
 impl<W: Write> StdSink<W> {
     /// Writes to `writer`, and has counted no fault.
     pub fn new(writer: W) -> StdSink<W>
-        ensures held { ⟦<StdSink<W> as Sink>⟧.held result ≡ None }
-        ensures faults { ⟦<StdSink<W> as Sink>⟧.faults result ≡ 0 }
+        ensures { result ≡ record { inner = writer; faults = 0 } }
     {
         StdSink { writer, faults: 0 }
     }
 
     /// How many writes failed, up to the greatest `u64`.
     pub fn faults(&self) -> u64
-        ensures { result ≡ ⟦<StdSink<W> as Sink>⟧.faults self.now }
+        ensures { result ≡ self.now.faults }
     {
         self.faults
     }
@@ -90,12 +102,10 @@ impl<W: Write> Sink for StdSink<W> {
     fn write(&mut self, piece: &[u8]) -> Wrote
         requires { 0 < length piece.now }
         ensures within { WriteWithin result piece.now }
-        ensures octets { let held = ⟦<StdSink<W> as Sink>⟧.held in
-            WritePuts (held self.old) (held self.new) result piece.now }
-        ensures cause { let faults = ⟦<StdSink<W> as Sink>⟧.faults in
-            HasCause (faults self.old) (faults self.new) (result ≡ Wrote.Failed) }
-        ensures faults { let faults = ⟦<StdSink<W> as Sink>⟧.faults in
-            faults self.new ≡ faults_after_write result (faults self.old) }
+        ensures octets { WritePuts None None result piece.now }
+        ensures cause { HasCause self.old.faults self.new.faults (result ≡ Wrote.Failed) }
+        ensures faults { self.new.faults ≡ faults_after_write result self.old.faults }
+        ensures writer { WriterGets (W.contents self.old.inner) (W.contents self.new.inner) result piece.now }
     {
         match self.writer.write(piece) {
             Ok(0) | Err(_) => {

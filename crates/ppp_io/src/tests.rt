@@ -1,5 +1,4 @@
 use super::*;
-
 use std::io;
 use std::io::Read;
 use std::process::Abort;
@@ -118,4 +117,6 @@ fn adapters_count_the_faults_of_std(rt: HostRuntime) {
     ];
     check_writes(&rt, &mut sink, &rows);
     assert_eq!(rt; sink.faults(), 1);
+    drop(sink);
+    assert!(rt; room == *b"abc");
 }
