@@ -1,4 +1,5 @@
-//! The outside as sources and sinks of octets. Each counts its faults, and answers one only where its count rose.
+//! The outside as sources and sinks of octets. Each counts its faults, up to the greatest `u64`, and fails only where
+//! its count rose in that call or stands there.
 #![tactic(auto)]
 
 mod errors;

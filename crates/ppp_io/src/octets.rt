@@ -1,4 +1,4 @@
-ghost use Rattle.std.specs.Prelude.{◌≡◌, ◌-◌, ◌+◌, ◌<◌, ◌≤◌, ◌↔◌, ◌++◌, IsTrue, Contains, length, min, take, drop, vec_len, vec_capacity};
+ghost use Rattle.std.specs.Prelude.{◌≡◌, ◌-◌, ◌+◌, ◌≤◌, ◌↔◌, ◌++◌, IsTrue, Contains, length, min, take, vec_len, vec_capacity};
 
 /// Whether a call's number is listed.
 pub(crate) fn is_listed(numbers: &[u32], number: u64) -> bool

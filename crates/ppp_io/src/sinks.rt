@@ -1,4 +1,4 @@
-ghost use Rattle.std.specs.Prelude.{◌≡◌, ◌+◌, ◌-◌, ◌<◌, ◌≤◌, ◌↔◌, ◌⊎◌, ◌++◌, ◌||◌, Contains, IfOk, [], false, length, min, nat_lt, take, if◌then◌else◌, Some, None};
+ghost use Rattle.std.specs.Prelude.{◌≡◌, ◌+◌, ◌-◌, ◌<◌, ◌≤◌, ◌↔◌, ◌⊎◌, ◌++◌, ◌||◌, Contains, IfOk, [], false, length, min, nat_lt, take, Some};
 ghost use Rattle.ppp_io.specs.Causes.{HasCause, one_more};
 ghost use Rattle.ppp_io.specs.InMemory.{told_by_sure_sink};
 ghost use Rattle.ppp_io.specs.Writes.{WriteWithin, WritePuts, WriteFits, faults_after_write};
@@ -15,7 +15,7 @@ use std::marker::Model;
 pub struct SureSink {
     octets: Vec<u8>,
     room: usize,
-    passed: bool,
+    past_room: bool,
 }
 
 impl Model for SureSink {
@@ -24,20 +24,20 @@ impl Model for SureSink {
 
     ghost Value = { SureSinkState };
 
-    ghost view = { λ s. record { held = s.octets.items; room = s.room; passed = s.passed } };
+    ghost view = { λ s. record { held = s.octets.items; room = s.room; past_room = s.past_room } };
 
     ghost invariant = { λ s. (vec_len s.octets ≤ s.room) × (s.room ≤ vec_capacity s.octets) };
 }
 
 impl SureSink {
-    /// Has room for `room` octets and holds none.
+    /// Has room for `room` octets and holds none. The call is refused for want of memory alone.
     pub fn new(alloc: Global, room: usize) -> Result<SureSink, Memory>
-        ensures { IfOk result (λ s. s ≡ record { held = []; room = room; passed = false }) }
+        ensures { IfOk result (λ s. s ≡ record { held = []; room = room; past_room = false }) }
     {
         Ok(SureSink {
             octets: Vec::with_capacity(alloc, room)?,
             room,
-            passed: false,
+            past_room: false,
         })
     }
 
@@ -50,10 +50,10 @@ impl SureSink {
     }
 
     /// Whether more came than it has room for.
-    pub fn is_passed(&self) -> bool
-        ensures { result ≡ self.now.passed }
+    pub fn is_past_room(&self) -> bool
+        ensures { result ≡ self.now.past_room }
     {
-        self.passed
+        self.past_room
     }
 }
 
@@ -65,16 +65,18 @@ impl Sink for SureSink {
     fn write(&mut self, piece: &[u8]) -> Wrote
         requires { 0 < length piece.now }
         ensures within { WriteWithin result piece.now }
-        ensures octets { WritePuts (told_by_sure_sink self.old) (told_by_sure_sink self.new) result piece.now }
+        ensures octets { WritePuts (told_by_sure_sink self.old) (told_by_sure_sink self.new)
+            result piece.now }
         ensures cause { HasCause 0 0 (result ≡ Wrote.Failed) }
         ensures whole { result ≡ Wrote.Took (length piece.now) }
         ensures first { self.new.held ≡ take self.old.room (self.old.held ++ piece.now) }
-        ensures passed { self.new.passed ≡ self.old.passed || nat_lt self.old.room (length self.old.held + length piece.now) }
+        ensures past_room { self.new.past_room
+            ≡ self.old.past_room || nat_lt self.old.room (length self.old.held + length piece.now) }
         ensures room { self.new.room ≡ self.old.room }
     {
         let kept = keep(&mut self.octets, self.room, piece);
         if kept < piece.len() {
-            self.passed = true;
+            self.past_room = true;
         }
         Wrote::Took(piece.len())
     }
@@ -96,15 +98,23 @@ impl Model for MemSink {
 
     ghost Value = { MemSinkState };
 
-    ghost view = { λ s. record { held = s.octets.items; room = s.room; failing = s.failing.items; calls = s.calls; faults = s.faults } };
+    ghost view = { λ s. record {
+      held = s.octets.items;
+      room = s.room;
+      failing = s.failing.items;
+      calls = s.calls;
+      faults = s.faults;
+    } };
 
     ghost invariant = { λ s. (vec_len s.octets ≤ s.room) × (s.room ≤ vec_capacity s.octets) };
 }
 
 impl MemSink {
     /// Has room for `room` octets and holds none. It fails at the writes whose numbers are listed, from 1.
+    /// The call is refused for want of memory alone.
     pub fn new(alloc: Global, room: usize, failing: Vec<u32>) -> Result<MemSink, Memory>
-        ensures { IfOk result (λ s. s ≡ record { held = []; room = room; failing = failing.items; calls = 0; faults = 0 }) }
+        ensures { IfOk result (λ s. s
+            ≡ record { held = []; room = room; failing = failing.items; calls = 0; faults = 0 }) }
     {
         Ok(MemSink {
             octets: Vec::with_capacity(alloc, room)?,
@@ -123,7 +133,7 @@ impl MemSink {
         &self.octets
     }
 
-    /// How many writes failed.
+    /// How many writes failed, up to the greatest `u64`.
     pub fn faults(&self) -> u64
         ensures { result ≡ self.now.faults }
     {

@@ -49,7 +49,8 @@ impl Source for SureSource {
         ensures within { ReadWithin result buf.new }
         ensures octets { ReadTakes (Some self.old.left) (Some self.new.left) result buf.new }
         ensures cause { HasCause 0 0 (result ≡ ReadGot.Failed) }
-        ensures gives { ReadGives result (min self.old.chunk (min (length buf.old) (length self.old.left))) }
+        ensures gives { ReadGives result
+            (min self.old.chunk (min (length buf.old) (length self.old.left))) }
         ensures chunk { self.new.chunk ≡ self.old.chunk }
     {
         let left = &self.octets[self.at..];
@@ -76,14 +77,26 @@ impl Model for MemSource {
 
     ghost Value = { MemSourceState };
 
-    ghost view = { λ s. record { left = s.inner.left; chunk = s.inner.chunk; failing = s.failing.items; calls = s.calls; faults = s.faults } };
+    ghost view = { λ s. record {
+      left = s.inner.left;
+      chunk = s.inner.chunk;
+      failing = s.failing.items;
+      calls = s.calls;
+      faults = s.faults;
+    } };
 }
 
 impl MemSource {
     /// Gives these octets, at most `chunk` a read, and fails at the reads whose numbers are listed, from 1. `chunk` isn't 0.
     pub fn new(octets: Vec<u8>, chunk: usize, failing: Vec<u32>) -> MemSource
         requires { 0 < chunk }
-        ensures { result ≡ record { left = octets.items; chunk = chunk; failing = failing.items; calls = 0; faults = 0 } }
+        ensures { result ≡ record {
+          left = octets.items;
+          chunk = chunk;
+          failing = failing.items;
+          calls = 0;
+          faults = 0;
+        } }
     {
         MemSource {
             inner: SureSource::new(octets, chunk),
@@ -93,7 +106,7 @@ impl MemSource {
         }
     }
 
-    /// How many reads failed.
+    /// How many reads failed, up to the greatest `u64`.
     pub fn faults(&self) -> u64
         ensures { result ≡ self.now.faults }
     {
@@ -115,7 +128,8 @@ impl Source for MemSource {
         // This read's number is the new count of calls.
         ensures calls { self.new.calls ≡ one_more self.old.calls }
         ensures fails { (result ≡ ReadGot.Failed) ↔ Contains self.old.failing self.new.calls }
-        ensures gives { ReadGives result (min self.old.chunk (min (length buf.old) (length self.old.left))) }
+        ensures gives { ReadGives result
+            (min self.old.chunk (min (length buf.old) (length self.old.left))) }
         ensures faults { self.new.faults ≡ faults_after_read result self.old.faults }
         ensures chunk { self.new.chunk ≡ self.old.chunk }
         ensures failing { self.new.failing ≡ self.old.failing }

@@ -47,7 +47,8 @@ impl<R: Read> Source for StdSource<R> {
     fn read(&mut self, buf: &mut [u8]) -> ReadGot
         requires { 0 < length buf.old }
         ensures within { ReadWithin result buf.new }
-        ensures octets { ReadTakes (R.remaining self.old.inner) (R.remaining self.new.inner) result buf.new }
+        ensures octets { ReadTakes (R.remaining self.old.inner) (R.remaining self.new.inner)
+            result buf.new }
         ensures cause { HasCause self.old.faults self.new.faults (result ≡ ReadGot.Failed) }
         ensures faults { self.new.faults ≡ faults_after_read result self.old.faults }
     {
@@ -105,7 +106,8 @@ impl<W: Write> Sink for StdSink<W> {
         ensures octets { WritePuts None None result piece.now }
         ensures cause { HasCause self.old.faults self.new.faults (result ≡ Wrote.Failed) }
         ensures faults { self.new.faults ≡ faults_after_write result self.old.faults }
-        ensures writer { WriterGets (W.contents self.old.inner) (W.contents self.new.inner) result piece.now }
+        ensures writer { WriterGets (W.contents self.old.inner) (W.contents self.new.inner)
+            result piece.now }
     {
         match self.writer.write(piece) {
             Ok(0) | Err(_) => {

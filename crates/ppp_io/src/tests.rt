@@ -1,4 +1,5 @@
 use super::*;
+use std::alloc::AllocFailed;
 use std::io;
 use std::io::Read;
 use std::process::Abort;
@@ -79,11 +80,11 @@ fn sinks_in_memory_hold_what_fits_and_fail_where_listed(rt: HostRuntime) -> Resu
     let mut sure = SureSink::new(rt.alloc(), 5)?;
     let rows: [(&[u8], Wrote); 2] = [(b"abcd", Wrote::Took(4)), (b"e", Wrote::Took(1))];
     check_writes(&rt, &mut sure, &rows);
-    assert!(rt; !sure.is_passed());
+    assert!(rt; !sure.is_past_room());
     let rows: [(&[u8], Wrote); 2] = [(b"fg", Wrote::Took(2)), (b"h", Wrote::Took(1))];
     check_writes(&rt, &mut sure, &rows);
     assert!(rt; sure.octets() == b"abcde".as_slice());
-    assert!(rt; sure.is_passed());
+    assert!(rt; sure.is_past_room());
     Ok(())
 }
 
@@ -119,4 +120,15 @@ fn adapters_count_the_faults_of_std(rt: HostRuntime) {
     assert_eq!(rt; sink.faults(), 1);
     drop(sink);
     assert!(rt; room == *b"abc");
+}
+
+#[test]
+fn want_of_memory_says_so(rt: HostRuntime) -> Result<(), Fail> {
+    let refused = Memory::from(AllocFailed { value: 7u8 });
+    assert_eq!(rt; refused, Memory);
+    assert_eq!(rt;
+        format!(in rt.alloc(); "{refused}")?.as_str(),
+        "out of memory"
+    );
+    Ok(())
 }
