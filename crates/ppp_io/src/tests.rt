@@ -1,0 +1,134 @@
+use super::*;
+use std::alloc::AllocFailed;
+use std::io;
+use std::io::Read;
+use std::process::Abort;
+use std::test::Fail;
+
+// A reader that fails.
+#[derive(Drop)]
+struct Broken;
+
+impl Read for Broken {
+    fn read(&mut self, _buf: &mut [u8]) -> io::Result<usize> {
+        Err(io::Error::other("broken"))
+    }
+}
+
+// Reads into four octets, once for each row: the answer, and the octets that come with it.
+fn check_reads<S: Source>(rt: &impl Abort, source: &mut S, rows: &[(ReadGot, &[u8])]) {
+    for (answer, octets) in rows {
+        let mut buf = [0u8; 4];
+        let got = source.read(&mut buf);
+        assert_eq!(rt; got, *answer);
+        if let ReadGot::Got(count) = got {
+            assert!(rt; &buf[..count] == *octets);
+        }
+    }
+}
+
+// Writes a piece for each row, and compares the answer.
+fn check_writes<K: Sink>(rt: &impl Abort, sink: &mut K, rows: &[(&[u8], Wrote)]) {
+    for (piece, answer) in rows {
+        if !piece.is_empty() {
+            assert_eq!(rt; sink.write(piece), *answer);
+        }
+    }
+}
+
+#[test]
+fn sources_in_memory_give_chunks_and_fail_where_listed(rt: HostRuntime) -> Result<(), Fail> {
+    let octets = Vec::from_slice(rt.alloc(), b"abcdefgh")?;
+    let failing = vec![in rt.alloc(); 2, 5]?;
+    let mut source = MemSource::new(octets, 3, failing);
+    let rows: [(ReadGot, &[u8]); 7] = [
+        (ReadGot::Got(3), b"abc"),
+        (ReadGot::Failed, b""),
+        (ReadGot::Got(3), b"def"),
+        (ReadGot::Got(2), b"gh"),
+        (ReadGot::Failed, b""),
+        (ReadGot::End, b""),
+        (ReadGot::End, b""),
+    ];
+    check_reads(&rt, &mut source, &rows);
+    assert_eq!(rt; source.faults(), 2);
+
+    let mut sure = SureSource::new(Vec::from_slice(rt.alloc(), b"abcdef")?, 9);
+    let rows: [(ReadGot, &[u8]); 3] = [
+        (ReadGot::Got(4), b"abcd"),
+        (ReadGot::Got(2), b"ef"),
+        (ReadGot::End, b""),
+    ];
+    check_reads(&rt, &mut sure, &rows);
+    Ok(())
+}
+
+#[test]
+fn sinks_in_memory_hold_what_fits_and_fail_where_listed(rt: HostRuntime) -> Result<(), Fail> {
+    let mut sink = MemSink::new(rt.alloc(), 5, vec![in rt.alloc(); 2]?)?;
+    let rows: [(&[u8], Wrote); 5] = [
+        (b"ab", Wrote::Took(2)),
+        (b"cd", Wrote::Failed),
+        (b"cd", Wrote::Took(2)),
+        (b"efg", Wrote::Took(1)),
+        (b"fg", Wrote::Failed),
+    ];
+    check_writes(&rt, &mut sink, &rows);
+    assert!(rt; sink.octets() == b"abcde".as_slice());
+    assert_eq!(rt; sink.faults(), 2);
+
+    let mut sure = SureSink::new(rt.alloc(), 5)?;
+    let rows: [(&[u8], Wrote); 2] = [(b"abcd", Wrote::Took(4)), (b"e", Wrote::Took(1))];
+    check_writes(&rt, &mut sure, &rows);
+    assert!(rt; !sure.is_past_room());
+    let rows: [(&[u8], Wrote); 2] = [(b"fg", Wrote::Took(2)), (b"h", Wrote::Took(1))];
+    check_writes(&rt, &mut sure, &rows);
+    assert!(rt; sure.octets() == b"abcde".as_slice());
+    assert!(rt; sure.is_past_room());
+    Ok(())
+}
+
+#[test]
+fn adapters_count_the_faults_of_std(rt: HostRuntime) {
+    let mut ended = StdSource::new(b"abcde".as_slice());
+    let rows: [(ReadGot, &[u8]); 3] = [
+        (ReadGot::Got(4), b"abcd"),
+        (ReadGot::Got(1), b"e"),
+        (ReadGot::End, b""),
+    ];
+    check_reads(&rt, &mut ended, &rows);
+    assert_eq!(rt; ended.faults(), 0);
+
+    let mut broken = StdSource::new(b"ab".as_slice().chain(Broken));
+    let rows: [(ReadGot, &[u8]); 3] = [
+        (ReadGot::Got(2), b"ab"),
+        (ReadGot::Failed, b""),
+        (ReadGot::Failed, b""),
+    ];
+    check_reads(&rt, &mut broken, &rows);
+    assert_eq!(rt; broken.faults(), 2);
+
+    // A writer over three octets takes nothing once they are full.
+    let mut room = [0u8; 3];
+    let mut sink = StdSink::new(room.as_mut_slice());
+    let rows: [(&[u8], Wrote); 3] = [
+        (b"ab", Wrote::Took(2)),
+        (b"cd", Wrote::Took(1)),
+        (b"d", Wrote::Failed),
+    ];
+    check_writes(&rt, &mut sink, &rows);
+    assert_eq!(rt; sink.faults(), 1);
+    drop(sink);
+    assert!(rt; room == *b"abc");
+}
+
+#[test]
+fn want_of_memory_says_so(rt: HostRuntime) -> Result<(), Fail> {
+    let refused = Memory::from(AllocFailed { value: 7u8 });
+    assert_eq!(rt; refused, Memory);
+    assert_eq!(rt;
+        format!(in rt.alloc(); "{refused}")?.as_str(),
+        "out of memory"
+    );
+    Ok(())
+}
