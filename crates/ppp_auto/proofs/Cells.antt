@@ -50,11 +50,11 @@ pub acks_good : (i : Input) (s : AutoState) → acks (row_of i s).actions ≡ tr
 acks_good i s h = grind arith
 
 -- a new request beside an Ack begins a negotiation in Stopped alone
-pub asks_and_acks : (s : AutoState) → asks (row_of RequestGood s).actions ≡ false → acks (row_of RequestGood s).actions ≡ true → is_stopped s ≡ false
-asks_and_acks s h k = grind arith
+pub acks_unasked : (i : Input) (s : AutoState) → acks (row_of i s).actions ≡ true → asks (row_of i s).actions ≡ false → is_stopped s ≡ false
+acks_unasked i s h k = grind arith
 
-pub begins_and_acks : (s : AutoState) → acks (row_of RequestGood s).actions ≡ true → begins_anew s ≡ is_stopped s
-begins_and_acks s h = grind arith
+pub acks_anew : (i : Input) (s : AutoState) → acks (row_of i s).actions ≡ true → begins_anew s ≡ is_stopped s
+acks_anew i s h = grind arith
 
 pub answers_on : (i : Input) (s : AutoState) → answers (row_of i s).actions ≡ true → is_off s ≡ false
 answers_on i s h = grind arith
