@@ -10,6 +10,7 @@ use Rattle.ppp_auto.specs.Lawful.{AllGood, NoneTwice, Passes}
 use Rattle.ppp_auto.specs.Packets.{Packet, Request, Ack, Nak, Reject, Other}
 use Rattle.ppp_auto.specs.Table.{Table}
 use Rattle.ppp_auto.proofs.Arithmetic.{id_of}
+use Rattle.ppp_auto.proofs.Cells.{is_request}
 
 empty_if : (b : Bool) (o : ConfigOption) (xs ys : List ConfigOption) → (if b then o ∷ xs else ys) ≡ [] → (b ≡ false) × (ys ≡ [])
 empty_if true o xs ys e = cc
@@ -61,6 +62,23 @@ accepted_passes t own naks word id theirs e =
     let empty = accepted naks id theirs (rejected judge [] theirs) (suggested judge theirs) (as_list (t.missing own theirs word)) (unacceptable judge theirs) e in
     let fine = clean t own word [] theirs empty.0 empty.1 in
     record { good = fine.good; once = fine.once; whole = none_listed (t.missing own theirs word) empty.2 }
+
+request_if : (b : Bool) (p q : Packet) → is_request (if b then refusing p else refusing q).input ≡ true
+request_if true p q = refl
+request_if false p q = refl
+
+request_with : (naks id : ℕ) (theirs refused better missing bad : List ConfigOption) → is_request (reply_with naks id theirs refused better missing bad).input ≡ true
+request_with naks id theirs [] [] [] bad = refl
+request_with naks id theirs [] [] (o ∷ missing) bad = refl
+request_with naks id theirs [] (o ∷ better) missing bad =
+    request_if (nat_le max_failure naks) (Reject id (fitting reject_room bad)) (Nak id ((o ∷ better) ++ missing))
+request_with naks id theirs (o ∷ refused) better missing bad = refl
+
+-- a request is one of the two events of the table
+pub request_to : (t : Table) (own : List ConfigOption) (naks word id : ℕ) (theirs : List ConfigOption) → is_request (reply_to t own naks word id theirs).input ≡ true
+request_to t own naks word id theirs =
+    let judge : ConfigOption → Verdict = λ o. t.judge own o word in
+    request_with naks id theirs (rejected judge [] theirs) (suggested judge theirs) (as_list (t.missing own theirs word)) (unacceptable judge theirs)
 
 -- An answer to a packet of that mark is no request, and an Ack has the Identifier of the request.
 abbrev pub Answering : ℕ → ℕ → ℕ → Packet → Type 0

@@ -36,6 +36,12 @@ abbrev pub answers : List Action → Bool
 answers [] = false
 answers (a ∷ as') = answers_in a || answers as'
 
+pub good_is_request : (i : Input) → is_request i ≡ false → i ≡ RequestGood → ⊥
+good_is_request i h e = grind arith
+
+pub ack_is_none : (i : Input) → is_request i ≡ true → i ≡ AckCame → ⊥
+ack_is_none i h e = grind arith
+
 -- what is granted was not asked for anew
 pub heard_asks_nothing : (i : Input) (s : AutoState) → is_heard (row_of i s).next ≡ true → asks (row_of i s).actions ≡ false
 heard_asks_nothing i s h = grind arith

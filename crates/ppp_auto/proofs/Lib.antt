@@ -2,7 +2,9 @@ pub mod Acceptance
 pub mod Arithmetic
 pub mod Cells
 pub mod Invariant
+pub mod Kept
 pub mod Moved
 pub mod Queues
 pub mod Rows
 pub mod Runs
+pub mod Taking

@@ -104,10 +104,10 @@ judged_if true false false first adapted own e h k = sym k
 judged_if false c true first adapted own e h k = let wrong : true ≡ false = h refl in cc
 judged_if false c false first adapted own e h k = refl
 
-if_true : {A : Type 0} (b : Bool) (one other : A) → b ≡ true → (if b then one else other) ≡ one
+pub if_true : {A : Type 0} (b : Bool) (one other : A) → b ≡ true → (if b then one else other) ≡ one
 if_true b one other e = rw e
 
-if_false : {A : Type 0} (b : Bool) (one other : A) → b ≡ false → (if b then one else other) ≡ other
+pub if_false : {A : Type 0} (b : Bool) (one other : A) → b ≡ false → (if b then one else other) ≡ other
 if_false b one other e = rw e
 
 either : (b : Bool) → (b ≡ true) ⊎ (b ≡ false)
@@ -198,17 +198,17 @@ module _ (s : Setup) (first_y : ℕ) (keeps_x keeps_y : List ConfigOption → Ty
       }
 
   -- nothing is done
-  pub rest_moves : (x y : End) → x.auto.next_id % 256 ≡ (s.first + x.n) % 256 → (is_heard x.auto.state ≡ true → y.got ≡ x.n) → keeps_x x.auto.own →
-      Moved s.first first_y keeps_x keeps_y allows_x x y x []
-  rest_moves x y ids heard own = record {
+  pub rest_moves : (x y : End) (got : ℕ) → got ≡ x.got → x.auto.next_id % 256 ≡ (s.first + x.n) % 256 → (is_heard x.auto.state ≡ true → y.got ≡ x.n) → keeps_x x.auto.own →
+      Moved s.first first_y keeps_x keeps_y allows_x x y (record x { got = got }) []
+  rest_moves x y got e ids heard own = record {
       ids = ids;
       more = omega arith;
-      same = λ e. refl;
+      same = λ _. refl;
       sends = tt;
       heard = heard;
       keeps_own = own;
-      acked = λ h. inl (record { before = h; peer = refl; got = refl; against = refl });
+      acked = λ h. inl (record { before = h; peer = refl; got = e; against = refl });
       low = λ h. inl h;
       left = λ h. inl h;
-      took = inl refl;
+      took = inl e;
     }
