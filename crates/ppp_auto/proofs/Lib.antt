@@ -1,6 +1,7 @@
 pub mod Acceptance
 pub mod Arithmetic
 pub mod Cells
+pub mod Events
 pub mod Invariant
 pub mod Kept
 pub mod Moved
@@ -8,3 +9,4 @@ pub mod Queues
 pub mod Rows
 pub mod Runs
 pub mod Taking
+pub mod Turns
