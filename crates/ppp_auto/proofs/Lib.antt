@@ -1,11 +1,14 @@
 pub mod Acceptance
+pub mod Agreement
 pub mod Arithmetic
 pub mod Cells
 pub mod Events
 pub mod Invariant
 pub mod Kept
 pub mod Moved
+pub mod Narrow
 pub mod Queues
+pub mod Reopening
 pub mod Rows
 pub mod Runs
 pub mod Taking
