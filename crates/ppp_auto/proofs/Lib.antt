@@ -8,6 +8,7 @@ pub mod Kept
 pub mod Moved
 pub mod Narrow
 pub mod Queues
+pub mod Reached
 pub mod Reopening
 pub mod Rows
 pub mod Runs
