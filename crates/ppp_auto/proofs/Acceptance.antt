@@ -3,9 +3,8 @@ use Rattle.std.proofs.Common.{◌≡◌, ℕ, ◌≤◌, Bool, true, false, ◌|
 use Rattle.ppp_packet.specs.ConfigOption.{ConfigOption}
 use Rattle.ppp_auto.specs.declared.verdict.Verdict.{Verdict}
 use Rattle.ppp_auto.specs.declared.verdict.Verdict.TheVariants.{Good, Bad, Unknown}
-use Rattle.ppp_auto.specs.declared.row.Input.{Input}
 use Rattle.ppp_auto.specs.declared.row.Input.TheVariants.{RequestGood}
-use Rattle.ppp_auto.specs.Judging.{has_kind, is_refused, rejected, better_of, suggested, as_list, unacceptable, Reply, refusing, reply_to_known, reply_with, reply_to, fitting, reject_room, max_failure}
+use Rattle.ppp_auto.specs.Judging.{has_kind, is_refused, rejected, better_of, suggested, as_list, unacceptable, refusing, reply_with, reply_to, fitting, reject_room, max_failure}
 use Rattle.ppp_auto.specs.Lawful.{AllGood, NoneTwice, Passes}
 use Rattle.ppp_auto.specs.Packets.{Packet, Request, Ack, Nak, Reject, Other}
 use Rattle.ppp_auto.specs.Table.{Table}

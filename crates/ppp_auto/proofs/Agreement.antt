@@ -1,5 +1,5 @@
 -- Two Opened ends agree.
-use Rattle.std.proofs.Common.{◌≡◌, ℕ, ◌⊎◌, inl, inr, ⊎_elim, true, List, refl, sym}
+use Rattle.std.proofs.Common.{◌≡◌, ℕ, ⊎_elim, true, List, sym}
 use Rattle.ppp_packet.specs.ConfigOption.{ConfigOption}
 use Rattle.ppp_auto.specs.declared.state.AutoState.{AutoState}
 use Rattle.ppp_auto.specs.declared.state.AutoState.TheVariants.{Opened}
@@ -7,7 +7,7 @@ use Rattle.ppp_auto.specs.Automaton.{is_heard, has_acked}
 use Rattle.ppp_auto.specs.Duet.{Duet, Setup, Event, run, start}
 use Rattle.ppp_auto.specs.Lawful.{Lawful}
 use Rattle.ppp_auto.specs.Table.{Table}
-use Rattle.ppp_auto.specs.TwoEnds.{IsNarrowRun, IsNarrowWhereTaken, Agree, Agreement}
+use Rattle.ppp_auto.specs.TwoEnds.{IsNarrowWhereTaken, Agree, Agreement}
 use Rattle.ppp_auto.proofs.Events.{run_holds, start_holds}
 use Rattle.ppp_auto.proofs.Invariant.{Holds}
 use Rattle.ppp_auto.proofs.Kept.{Used, used}
@@ -61,9 +61,9 @@ module _ (ta tb : Table) (sends_a sends_b : List ConfigOption → Type 0) (unkno
       let used_a = used ta sends_a unknown_a allows_a compat lawful_a in
       let used_b = used tb sends_b unknown_b allows_b compat lawful_b in
       opened_agree sa sb sends_a sends_b allows_a allows_b compat used_a used_b (run sa sb es (start sa sb))
-          (run_holds sa sb sends_a sends_b allows_a allows_b compat used_a used_b es (start sa sb) narrow
-              (start_holds sa sb sends_a sends_b allows_a allows_b compat used_a used_b))
-          opened_a opened_b
+      (run_holds sa sb sends_a sends_b allows_a allows_b compat used_a used_b es (start sa sb) narrow
+      (start_holds sa sb sends_a sends_b allows_a allows_b compat used_a used_b))
+      opened_a opened_b
 
   pub agreement : Agreement ta tb sends_a sends_b allows_a allows_b compat
   agreement first_a first_b es narrow opened_a opened_b =

@@ -1,5 +1,5 @@
 -- What holds of each cell of the event table.
-use Rattle.std.proofs.Common.{◌≡◌, ℕ, ◌⊎◌, Bool, true, false, ◌||◌, List, [], ◌∷◌, arith}
+use Rattle.std.proofs.Common.{◌≡◌, ◌⊎◌, Bool, true, false, ◌||◌, List, [], ◌∷◌, arith}
 use Rattle.ppp_auto.specs.declared.state.AutoState.{AutoState}
 use Rattle.ppp_auto.specs.declared.state.AutoState.TheVariants.{Initial, Starting, Closed, Stopped, Closing, Stopping}
 use Rattle.ppp_auto.specs.declared.row.Input.{Input}

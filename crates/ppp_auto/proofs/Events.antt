@@ -1,21 +1,20 @@
 -- Each event of two ends keeps the invariant.
-use Rattle.std.proofs.Common.{◌≡◌, ℕ, zero, suc, ◌+◌, ◌%◌, ◌≤◌, ◌⊎◌, inl, inr, ⊎_elim, Bool, true, false, nat_lt, if◌then◌else◌, List, [], ◌∷◌, ◌++◌, Some, None, refl, sym, ◌∙◌, append-nil, arith}
+use Rattle.std.proofs.Common.{◌≡◌, ℕ, ◌+◌, ◌%◌, ◌≤◌, inl, inr, ⊎_elim, Bool, true, false, nat_lt, if◌then◌else◌, List, [], ◌∷◌, ◌++◌, Some, refl, sym, append-nil, arith}
 use Rattle.ppp_packet.specs.ConfigOption.{ConfigOption}
 use Rattle.ppp_auto.specs.declared.state.AutoEvent.{AutoEvent}
 use Rattle.ppp_auto.specs.declared.state.AutoEvent.TheVariants as event
-use Rattle.ppp_auto.specs.declared.row.Input.{Input}
 use Rattle.ppp_auto.specs.declared.row.Input.TheVariants.{Down, AckCame, TimeoutAgain, TimeoutLast}
-use Rattle.ppp_auto.specs.Automaton.{Auto, taken_as, input_of, is_heard, is_opened, has_acked, begins_anew, does_row}
-use Rattle.ppp_auto.specs.Duet.{End, Marked, Duet, Setup, Side, A, B, Happening, Commands, SetsCap, RejectsProtocol, Delivers, Loses, Reboots, Event, does, takes, got_after, is_off, requests, request_mark, without, turned, end_begun, start, delivers, commands, reboots, at_first, at_side, happens, run, Narrow, span_of, widest}
+use Rattle.ppp_auto.specs.Automaton.{Auto, taken_as, input_of, is_heard, has_acked, begins_anew, does_row}
+use Rattle.ppp_auto.specs.Duet.{End, Marked, Duet, Setup, Side, A, B, Happening, Commands, SetsCap, RejectsProtocol, Delivers, Loses, Reboots, Event, does, takes, got_after, is_off, requests, request_mark, without, turned, end_begun, start, delivers, commands, reboots, at_first, at_side, happens, run, span_of, widest}
 use Rattle.ppp_auto.specs.Packets.{Packet, Request, Ack, Nak, Reject, Other}
-use Rattle.ppp_auto.specs.Rows.{row_of, asks, acks}
+use Rattle.ppp_auto.specs.Rows.{row_of, asks}
 use Rattle.ppp_auto.specs.TwoEnds.{NarrowIfTaken, IsNarrowWhereTaken}
-use Rattle.ppp_auto.proofs.Cells.{is_request, is_low, down_low, down_asks_nothing, low_not_heard, low_not_acked}
-use Rattle.ppp_auto.proofs.Invariant.{Asked, Acked, Half, Judged, Holds}
+use Rattle.ppp_auto.proofs.Cells.{is_request, down_low, down_asks_nothing, low_not_heard, low_not_acked}
+use Rattle.ppp_auto.proofs.Invariant.{Asked, Acked, Half, Holds}
 use Rattle.ppp_auto.proofs.Kept.{Used}
 use Rattle.ppp_auto.proofs.Moved.{Moved, own_half, other_half, both_judged}
 use Rattle.ppp_auto.proofs.Queues.{Every, every_without, Rising, rising_within, rising_without, rising_rest, ack_near}
-use Rattle.ppp_auto.proofs.Rows.{Ready, if_false, row_moves, rest_moves}
+use Rattle.ppp_auto.proofs.Rows.{if_false, row_moves, rest_moves}
 use Rattle.ppp_auto.proofs.Taking.{Near, plain, packet_moves, takes_got}
 use Rattle.ppp_auto.proofs.Turns.{Turn, turn_mine, turn_other, turn_low}
 
@@ -60,9 +59,16 @@ near_front n out mark (Other code id octets) rest h = tt
 shorter : (first : ℕ) (keeps : List ConfigOption → Type 0) (allows : List ConfigOption → List ConfigOption → Type 0) (e f : End) (out back rest : List Marked) →
     Every (Acked first f.got) rest → Half first keeps allows e f out back → Half first keeps allows e f out rest
 shorter first keeps allows e f out back rest acked h = record {
-    ids = h.ids; rising = h.rising; asked = h.asked; acked = acked; heard = h.heard;
-    keeps_own = h.keeps_own; allowed = h.allowed; knows = h.knows; keeps_peer = h.keeps_peer;
-  }
+  ids = h.ids;
+  rising = h.rising;
+  asked = h.asked;
+  acked = acked;
+  heard = h.heard;
+  keeps_own = h.keeps_own;
+  allowed = h.allowed;
+  knows = h.knows;
+  keeps_peer = h.keeps_peer;
+}
 
 module _ (sa sb : Setup) (keeps_a keeps_b : List ConfigOption → Type 0) (allows_a allows_b compat : List ConfigOption → List ConfigOption → Type 0) where
   abbrev Good : Duet → Type 0
@@ -109,7 +115,7 @@ module _ (sa sb : Setup) (keeps_a keeps_b : List ConfigOption → Type 0) (allow
       let taken = taken_as d.a.auto (Some input) 0 in
       let command = command_plain d.a.auto e in
       let moved = row_moves sa sb.first keeps_a keeps_b allows_a d.a d.b d.a.got input taken 0 word h.of_a.ids h.of_a.heard h.of_a.keeps_own (used.first word)
-          (plain sa sb.first keeps_a keeps_b allows_a compat d.a d.b input taken 0 word h.of_a.keeps_own tt command.0 command.1) in
+      (plain sa sb.first keeps_a keeps_b allows_a compat d.a d.b input taken 0 word h.of_a.keeps_own tt command.0 command.1) in
       let did = does sa d.a input taken 0 word in
       goes d did.end did.sent d.to_a (d.to_b ++ did.sent) h (acts d did.end did.sent (d.to_b ++ did.sent) h refl moved refl)
 
@@ -117,27 +123,45 @@ module _ (sa sb : Setup) (keeps_a keeps_b : List ConfigOption → Type 0) (allow
   cap_goes d cap h =
       let x : End = record d.a { auto = record d.a.auto { cap = cap } } in
       goes d x [] d.to_a d.to_b h (acts d x [] d.to_b h refl (record {
-        ids = h.of_a.ids; more = omega arith; same = λ _. refl; sends = tt; heard = h.of_a.heard; keeps_own = h.of_a.keeps_own;
+        ids = h.of_a.ids;
+        more = omega arith;
+        same = λ _. refl;
+        sends = tt;
+        heard = h.of_a.heard;
+        keeps_own = h.of_a.keeps_own;
         acked = λ k. inl (record { before = k; peer = refl; got = refl; against = refl });
-        low = λ k. inl k; left = λ k. inl k; took = inl refl;
+        low = λ k. inl k;
+        left = λ k. inl k;
+        took = inl refl;
       }) (sym (append-nil d.to_b)))
 
   rejects_goes : (d : Duet) (id : ℕ) (octets : List ℕ) → Good d → Goes d (record d { to_b = d.to_b ++ record { mark = 0; packet = Other 8 id octets } ∷ [] })
   rejects_goes d id octets h =
       let sent : List Marked = record { mark = 0; packet = Other 8 id octets } ∷ [] in
       goes d d.a sent d.to_a (d.to_b ++ sent) h (acts d d.a sent (d.to_b ++ sent) h refl (record {
-        ids = h.of_a.ids; more = omega arith; same = λ _. refl; sends = (tt, tt); heard = h.of_a.heard; keeps_own = h.of_a.keeps_own;
+        ids = h.of_a.ids;
+        more = omega arith;
+        same = λ _. refl;
+        sends = (tt, tt);
+        heard = h.of_a.heard;
+        keeps_own = h.of_a.keeps_own;
         acked = λ k. inl (record { before = k; peer = refl; got = refl; against = refl });
-        low = λ k. inl k; left = λ k. inl k; took = inl refl;
+        low = λ k. inl k;
+        left = λ k. inl k;
+        took = inl refl;
       }) refl)
 
   -- nothing happens but that the queue to the first end gets shorter
   rests : (d : Duet) (rest : List Marked) → Good d → Every (Acked sa.first d.b.got) rest → Every (Asked sb.first keeps_b d.b.n d.b.auto.own) rest →
       Rising d.a.got d.b.n (requests rest) → Goes d (record d { to_a = rest })
   rests d rest h acked asked rising = goes d d.a [] rest d.to_b h (record {
-      moved = rest_moves sa sb.first keeps_a keeps_b allows_a d.a d.b d.a.got refl h.of_a.ids h.of_a.heard h.of_a.keeps_own;
-      queued = sym (append-nil d.to_b); acked = acked; asked = asked; rising = rising; later = omega arith;
-    })
+    moved = rest_moves sa sb.first keeps_a keeps_b allows_a d.a d.b d.a.got refl h.of_a.ids h.of_a.heard h.of_a.keeps_own;
+    queued = sym (append-nil d.to_b);
+    acked = acked;
+    asked = asked;
+    rising = rising;
+    later = omega arith;
+  })
 
   loses_goes : (d : Duet) (place : ℕ) → Good d → Goes d (record d { to_a = without place d.to_a })
   loses_goes d place h = rests d (without place d.to_a) h (every_without (Acked sa.first d.b.got) place d.to_a h.of_a.acked)
@@ -183,12 +207,26 @@ module _ (sa sb : Setup) (keeps_a keeps_b : List ConfigOption → Type 0) (allow
       record {
         holds = record {
           of_a = record {
-            ids = omega arith; rising = omega arith; asked = tt; acked = tt; heard = λ e. cc; keeps_own = used.first 0;
-            allowed = λ e. cc; knows = λ e. cc; keeps_peer = λ e. cc;
+            ids = omega arith;
+            rising = omega arith;
+            asked = tt;
+            acked = tt;
+            heard = λ e. cc;
+            keeps_own = used.first 0;
+            allowed = λ e. cc;
+            knows = λ e. cc;
+            keeps_peer = λ e. cc;
           };
           of_b = record {
-            ids = rw (id, n) h.of_b.ids; rising = omega arith; asked = tt; acked = tt; heard = λ e. cc; keeps_own = rw own h.of_b.keeps_own;
-            allowed = λ e. cc; knows = λ e. cc; keeps_peer = λ e. cc;
+            ids = rw (id, n) h.of_b.ids;
+            rising = omega arith;
+            asked = tt;
+            acked = tt;
+            heard = λ e. cc;
+            keeps_own = rw own h.of_b.keeps_own;
+            allowed = λ e. cc;
+            knows = λ e. cc;
+            keeps_peer = λ e. cc;
           };
           judged = λ e. cc;
         };
@@ -210,10 +248,10 @@ module _ (sa sb : Setup) (keeps_a keeps_b : List ConfigOption → Type 0) (allow
 turned_holds : (sa sb : Setup) (keeps_a keeps_b : List ConfigOption → Type 0) (allows_a allows_b : List ConfigOption → List ConfigOption → Type 0) (d : Duet) →
     Holds sa.first sb.first keeps_a keeps_b allows_a allows_b d → Holds sb.first sa.first keeps_b keeps_a allows_b allows_a (turned d)
 turned_holds sa sb keeps_a keeps_b allows_a allows_b d h = record {
-    of_a = h.of_b;
-    of_b = h.of_a;
-    judged = λ acked_b acked_a got_b got_a. ⊎_elim (λ e. inr e) (λ e. inl e) (h.judged acked_a acked_b got_a got_b);
-  }
+  of_a = h.of_b;
+  of_b = h.of_a;
+  judged = λ acked_b acked_a got_b got_a. ⊎_elim (λ e. inr e) (λ e. inl e) (h.judged acked_a acked_b got_a got_b);
+}
 
 narrow_turned : (what : Happening) (d : Duet) → NarrowIfTaken what d → NarrowIfTaken what (turned d)
 narrow_turned (Commands e) d h = tt
@@ -235,7 +273,7 @@ module _ (sa sb : Setup) (keeps_a keeps_b : List ConfigOption → Type 0) (allow
   side_goes A d what word narrow h = first_goes sa sb keeps_a keeps_b allows_a allows_b compat d what word used_a narrow h
   side_goes B d what word narrow h =
       let g = first_goes sb sa keeps_b keeps_a allows_b allows_a compat (turned d) what word used_b (narrow_turned what d narrow)
-          (turned_holds sa sb keeps_a keeps_b allows_a allows_b d h) in
+      (turned_holds sa sb keeps_a keeps_b allows_a allows_b d h) in
       record {
         holds = turned_holds sb sa keeps_b keeps_a allows_b allows_a (at_first sb sa (turned d) what word) g.holds;
         mine = g.other;
@@ -252,13 +290,27 @@ module _ (sa sb : Setup) (keeps_a keeps_b : List ConfigOption → Type 0) (allow
 
   pub start_holds : Fine (start sa sb)
   start_holds = record {
-      of_a = record {
-        ids = omega arith; rising = omega arith; asked = tt; acked = tt; heard = λ e. cc; keeps_own = used_a.first 0;
-        allowed = λ e. cc; knows = λ e. cc; keeps_peer = λ e. cc;
-      };
-      of_b = record {
-        ids = omega arith; rising = omega arith; asked = tt; acked = tt; heard = λ e. cc; keeps_own = used_b.first 0;
-        allowed = λ e. cc; knows = λ e. cc; keeps_peer = λ e. cc;
-      };
-      judged = λ e. cc;
-    }
+    of_a = record {
+      ids = omega arith;
+      rising = omega arith;
+      asked = tt;
+      acked = tt;
+      heard = λ e. cc;
+      keeps_own = used_a.first 0;
+      allowed = λ e. cc;
+      knows = λ e. cc;
+      keeps_peer = λ e. cc;
+    };
+    of_b = record {
+      ids = omega arith;
+      rising = omega arith;
+      asked = tt;
+      acked = tt;
+      heard = λ e. cc;
+      keeps_own = used_b.first 0;
+      allowed = λ e. cc;
+      knows = λ e. cc;
+      keeps_peer = λ e. cc;
+    };
+    judged = λ e. cc;
+  }

@@ -24,13 +24,13 @@ pub record Used (t : Table) (keeps : List ConfigOption → Type 0) (allows compa
 pub used : (t : Table) (sends : List ConfigOption → Type 0) (unknown : ConfigOption → Type 0) (allows compat : List ConfigOption → List ConfigOption → Type 0) →
     Lawful t sends unknown allows compat → Used t sends allows compat
 used t sends unknown allows compat l = record {
-    first = l.first_sent;
-    after_nak = l.after_nak_sent;
-    after_reject = l.after_reject_sent;
-    allowed = λ own theirs word sent passes. (l.allows_is own theirs word sent).1 passes;
-    fits = l.allowed_fits;
-    fits_both = l.fits_both_ways;
-  }
+  first = l.first_sent;
+  after_nak = l.after_nak_sent;
+  after_reject = l.after_reject_sent;
+  allowed = λ own theirs word sent passes. (l.allows_is own theirs word sent).1 passes;
+  fits = l.allowed_fits;
+  fits_both = l.fits_both_ways;
+}
 
 -- and so are that and another one together
 abbrev pub SentAnd : (List ConfigOption → Type 0) → (List ConfigOption → Type 0) → List ConfigOption → Type 0
@@ -39,10 +39,10 @@ SentAnd sends keeps list = sends list × keeps list
 pub used_with : (t : Table) (sends : List ConfigOption → Type 0) (unknown : ConfigOption → Type 0) (allows compat : List ConfigOption → List ConfigOption → Type 0)
     (keeps : List ConfigOption → Type 0) → Lawful t sends unknown allows compat → KeptBy t keeps → Used t (SentAnd sends keeps) allows compat
 used_with t sends unknown allows compat keeps l k = record {
-    first = λ word. (l.first_sent word, k.first_kept word);
-    after_nak = λ last nak word h. (l.after_nak_sent last nak word h.0, k.after_nak_kept last nak word h.1);
-    after_reject = λ last reject word h. (l.after_reject_sent last reject word h.0, k.after_reject_kept last reject word h.1);
-    allowed = λ own theirs word h passes. (l.allows_is own theirs word h.0).1 passes;
-    fits = λ own theirs h. l.allowed_fits own theirs h.0;
-    fits_both = l.fits_both_ways;
-  }
+  first = λ word. (l.first_sent word, k.first_kept word);
+  after_nak = λ last nak word h. (l.after_nak_sent last nak word h.0, k.after_nak_kept last nak word h.1);
+  after_reject = λ last reject word h. (l.after_reject_sent last reject word h.0, k.after_reject_kept last reject word h.1);
+  allowed = λ own theirs word h passes. (l.allows_is own theirs word h.0).1 passes;
+  fits = λ own theirs h. l.allowed_fits own theirs h.0;
+  fits_both = l.fits_both_ways;
+}

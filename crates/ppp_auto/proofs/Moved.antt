@@ -1,13 +1,13 @@
 -- What a row comes to at one end, and that it keeps the invariant: nothing is said here of tables, packets or rows.
-use Rattle.std.proofs.Common.{◌≡◌, ℕ, ◌+◌, ◌%◌, ◌≤◌, ◌<◌, ◌⊎◌, inl, inr, Bool, true, false, List, [], ◌∷◌, ◌++◌, refl, sym, ◌∙◌, arith}
+use Rattle.std.proofs.Common.{◌≡◌, ℕ, ◌+◌, ◌%◌, ◌≤◌, ◌<◌, ◌⊎◌, inl, inr, true, false, List, ◌++◌, sym, ◌∙◌, arith}
 use Rattle.std.proofs.Math.Logic.{⊎_map}
 use Rattle.ppp_packet.specs.ConfigOption.{ConfigOption}
 use Rattle.ppp_auto.specs.Automaton.{is_heard, has_acked, is_opened}
-use Rattle.ppp_auto.specs.Duet.{End, Marked, Duet, requests}
+use Rattle.ppp_auto.specs.Duet.{End, Marked, requests}
 use Rattle.ppp_auto.specs.Packets.{Packet, Request, Ack, Nak, Reject, Other}
 use Rattle.ppp_auto.proofs.Arithmetic.{id_of}
 use Rattle.ppp_auto.proofs.Cells.{is_low}
-use Rattle.ppp_auto.proofs.Invariant.{Asked, Acked, Half, Judged, Holds}
+use Rattle.ppp_auto.proofs.Invariant.{Asked, Acked, Half, Judged}
 use Rattle.ppp_auto.proofs.Queues.{Every, every_weaker, every_append, Rising, rising_within, rising_to, MarkedBy, rising_append}
 
 -- What is sent by an end that has sent n requests, the last one with the own list: requests with these, and Acks of

@@ -1,7 +1,7 @@
 -- What holds of each packet of a queue, and of the marks of its requests.
-use Rattle.std.proofs.Common.{◌≡◌, ℕ, zero, suc, ◌+◌, ◌-◌, ◌≤◌, min, List, [], ◌∷◌, ◌++◌, arith}
+use Rattle.std.proofs.Common.{◌≡◌, ℕ, zero, suc, ◌+◌, ◌≤◌, List, [], ◌∷◌, ◌++◌, arith}
 use Rattle.ppp_packet.specs.ConfigOption.{ConfigOption}
-use Rattle.ppp_auto.specs.Duet.{Marked, requests, request_mark, answers, answer_mark, least, without, span_of, widest}
+use Rattle.ppp_auto.specs.Duet.{Marked, requests, request_mark, answers, least, without, span_of, widest}
 use Rattle.ppp_auto.specs.Packets.{Packet, Request, Ack, Nak, Reject, Other}
 
 -- it holds of each packet with its mark
@@ -63,7 +63,7 @@ rising_without zero (m ∷ ms) low high h = h
 rising_without (suc zero) (m ∷ ms) low high h = rising_rest m.mark m.packet low high (requests ms) h
 rising_without (suc (suc place)) (m ∷ ms) low high h =
     rising_front m.mark m.packet low high (requests ms) (requests (without (suc place) ms))
-        (λ from. rising_without (suc place) ms from high) h
+    (λ from. rising_without (suc place) ms from high) h
 
 -- each request has that mark
 abbrev pub MarkedBy : ℕ → ℕ → Packet → Type 0
@@ -89,7 +89,7 @@ pub rising_append : (low high : ℕ) (ms ns : List Marked) → Rising low high (
 rising_append low high [] ns h k = rising_from low high high (requests ns) h (rising_newest high ns k)
 rising_append low high (m ∷ ms) ns h k =
     rising_front m.mark m.packet low high (requests ms) (requests (ms ++ ns))
-        (λ from more. rising_append from high ms ns more k) h
+    (λ from more. rising_append from high ms ns more k) h
 
 least_below : (n : ℕ) (xs : List ℕ) (m : ℕ) (ys : List ℕ) → least n (xs ++ m ∷ ys) ≤ m
 least_below n [] m ys = omega arith

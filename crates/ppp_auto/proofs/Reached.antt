@@ -1,12 +1,12 @@
 -- States that a list of events leads to from the start: what layers above cite.
-use Rattle.std.proofs.Common.{◌≡◌, ℕ, ◌⊎◌, inl, inr, true, List, [], ◌∷◌, ◌++◌, refl, sym, ap, subst, ◌∙◌}
+use Rattle.std.proofs.Common.{◌≡◌, ℕ, inr, true, List, [], ◌∷◌, ◌++◌, refl, sym, ap, subst, ◌∙◌}
 use Rattle.ppp_packet.specs.ConfigOption.{ConfigOption}
 use Rattle.ppp_auto.specs.declared.state.AutoState.TheVariants.{Opened}
 use Rattle.ppp_auto.specs.Automaton.{has_acked}
 use Rattle.ppp_auto.specs.Duet.{End, Duet, Marked, Setup, Side, Event, happens, run, start}
 use Rattle.ppp_auto.specs.Lawful.{Lawful}
 use Rattle.ppp_auto.specs.Packets.{Packet, Request, Ack, Nak, Reject, Other}
-use Rattle.ppp_auto.specs.TwoEnds.{NarrowIfTaken, IsNarrowWhereTaken, Agree, end_at, end_beyond, IsOpenedAt}
+use Rattle.ppp_auto.specs.TwoEnds.{NarrowIfTaken, IsNarrowWhereTaken, Agree, end_beyond, IsOpenedAt}
 use Rattle.ppp_auto.proofs.Agreement.{opened_agree}
 use Rattle.ppp_auto.proofs.Events.{run_holds, start_holds}
 use Rattle.ppp_auto.proofs.Invariant.{Asked, Half, Holds}
@@ -14,7 +14,6 @@ use Rattle.ppp_auto.proofs.Kept.{KeptBy, SentAnd, Used, used, used_with}
 use Rattle.ppp_auto.proofs.Narrow.{run_append, narrow_append}
 use Rattle.ppp_auto.proofs.Queues.{Every, every_weaker}
 use Rattle.ppp_auto.proofs.Reopening.{Waits, waits_left, waits_on, waits_entered}
-use Rattle.ppp_auto.proofs.Turns.{Away}
 
 -- a list of events leads from the start to that state, and each state before a delivery is narrow
 pub record Reached (sa sb : Setup) (d : Duet) : Type 0 where
@@ -27,10 +26,10 @@ reached_start sa sb = record { events = []; narrow = tt; ends = refl }
 
 pub reached_on : (sa sb : Setup) (d : Duet) (e : Event) → NarrowIfTaken e.what d → Reached sa sb d → Reached sa sb (happens sa sb d e)
 reached_on sa sb d e narrow r = record {
-    events = r.events ++ e ∷ [];
-    narrow = narrow_append sa sb r.events (e ∷ []) (start sa sb) r.narrow (subst (NarrowIfTaken e.what) (sym r.ends) narrow, tt);
-    ends = run_append sa sb r.events (e ∷ []) (start sa sb) ∙ ap (λ x. happens sa sb x e) r.ends;
-  }
+  events = r.events ++ e ∷ [];
+  narrow = narrow_append sa sb r.events (e ∷ []) (start sa sb) r.narrow (subst (NarrowIfTaken e.what) (sym r.ends) narrow, tt);
+  ends = run_append sa sb r.events (e ∷ []) (start sa sb) ∙ ap (λ x. happens sa sb x e) r.ends;
+}
 
 -- each request of a queue has a list of that property
 abbrev pub IsKeptIn : (List ConfigOption → Type 0) → ℕ → Packet → Type 0
@@ -61,18 +60,18 @@ asked_kept sends keeps first n own mark (Other code id octets) h = tt
 lists : (sends keeps : List ConfigOption → Type 0) (allows : List ConfigOption → List ConfigOption → Type 0) (first : ℕ) (e f : End) (out back : List Marked) →
     Half first (SentAnd sends keeps) allows e f out back → Lists keeps e f out
 lists sends keeps allows first e f out back h = record {
-    own = h.keeps_own.1;
-    under_way = every_weaker (asked_kept sends keeps first e.n e.auto.own) out h.asked;
-    acknowledged = λ acked. (h.keeps_peer acked).1;
-  }
+  own = h.keeps_own.1;
+  under_way = every_weaker (asked_kept sends keeps first e.n e.auto.own) out h.asked;
+  acknowledged = λ acked. (h.keeps_peer acked).1;
+}
 
 -- the invariant, for a property of lists that each end's table keeps
 pub reached_holds : (sa sb : Setup) (keeps_a keeps_b : List ConfigOption → Type 0) (allows_a allows_b compat : List ConfigOption → List ConfigOption → Type 0) →
     Used sa.table keeps_a allows_a compat → Used sb.table keeps_b allows_b compat → (d : Duet) → Reached sa sb d → Holds sa.first sb.first keeps_a keeps_b allows_a allows_b d
 reached_holds sa sb keeps_a keeps_b allows_a allows_b compat used_a used_b d r =
     subst (Holds sa.first sb.first keeps_a keeps_b allows_a allows_b) r.ends
-        (run_holds sa sb keeps_a keeps_b allows_a allows_b compat used_a used_b r.events (start sa sb) r.narrow
-            (start_holds sa sb keeps_a keeps_b allows_a allows_b compat used_a used_b))
+    (run_holds sa sb keeps_a keeps_b allows_a allows_b compat used_a used_b r.events (start sa sb) r.narrow
+    (start_holds sa sb keeps_a keeps_b allows_a allows_b compat used_a used_b))
 
 module _ (sa sb : Setup) (sends_a sends_b : List ConfigOption → Type 0) (unknown_a unknown_b : ConfigOption → Type 0) (allows_a allows_b compat : List ConfigOption → List ConfigOption → Type 0)
     (lawful_a : Lawful sa.table sends_a unknown_a allows_a compat) (lawful_b : Lawful sb.table sends_b unknown_b allows_b compat) where
@@ -88,7 +87,7 @@ module _ (sa sb : Setup) (sends_a sends_b : List ConfigOption → Type 0) (unkno
   pub carried_at : (keeps_a keeps_b : List ConfigOption → Type 0) → KeptBy sa.table keeps_a → KeptBy sb.table keeps_b → (d : Duet) → Reached sa sb d → Carried keeps_a keeps_b d
   carried_at keeps_a keeps_b kept_a kept_b d r =
       let h = reached_holds sa sb (SentAnd sends_a keeps_a) (SentAnd sends_b keeps_b) allows_a allows_b compat
-          (used_with sa.table sends_a unknown_a allows_a compat keeps_a lawful_a kept_a) (used_with sb.table sends_b unknown_b allows_b compat keeps_b lawful_b kept_b) d r in
+      (used_with sa.table sends_a unknown_a allows_a compat keeps_a lawful_a kept_a) (used_with sb.table sends_b unknown_b allows_b compat keeps_b lawful_b kept_b) d r in
       record {
         of_a = lists sends_a keeps_a allows_b sa.first d.a d.b d.to_b d.to_a h.of_a;
         of_b = lists sends_b keeps_b allows_a sb.first d.b d.a d.to_a d.to_b h.of_b;

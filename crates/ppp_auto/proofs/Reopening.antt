@@ -1,5 +1,5 @@
 -- An end that opens again: meanwhile the other end was outside Opened.
-use Rattle.std.proofs.Common.{◌≡◌, ℕ, ◌⊎◌, inl, inr, ⊎_elim, Bool, true, false, List, [], ◌∷◌, ◌++◌, refl, arith}
+use Rattle.std.proofs.Common.{◌≡◌, ℕ, ◌⊎◌, inl, inr, ⊎_elim, true, false, List, [], ◌∷◌, ◌++◌, arith}
 use Rattle.ppp_packet.specs.ConfigOption.{ConfigOption}
 use Rattle.ppp_auto.specs.declared.state.AutoState.{AutoState}
 use Rattle.ppp_auto.specs.declared.state.AutoState.TheVariants.{Opened}
@@ -7,7 +7,7 @@ use Rattle.ppp_auto.specs.Automaton.{is_opened}
 use Rattle.ppp_auto.specs.Duet.{Duet, Setup, Side, A, B, Event, happens, run, start}
 use Rattle.ppp_auto.specs.Lawful.{Lawful}
 use Rattle.ppp_auto.specs.Table.{Table}
-use Rattle.ppp_auto.specs.TwoEnds.{IsNarrowRun, NarrowIfTaken, IsNarrowWhereTaken, end_at, end_beyond, IsOpenedAt, StaysOut, IsOnceOut, Reopening}
+use Rattle.ppp_auto.specs.TwoEnds.{NarrowIfTaken, IsNarrowWhereTaken, end_at, end_beyond, IsOpenedAt, StaysOut, IsOnceOut, Reopening}
 use Rattle.ppp_auto.proofs.Events.{Goes, event_goes, run_holds, start_holds}
 use Rattle.ppp_auto.proofs.Invariant.{Holds}
 use Rattle.ppp_auto.proofs.Kept.{Used, used}
@@ -49,7 +49,7 @@ module _ (sa sb : Setup) (keeps_a keeps_b : List ConfigOption → Type 0) (allow
       Away (end_at side (happens sa sb d e)) (end_beyond side (happens sa sb d e))
   waits_left side d e narrow h opened out =
       ⊎_elim (λ k. absurd (out (is_opened_at (end_at side (happens sa sb d e)).auto.state k))) (λ k. k)
-          ((turn side d e narrow h).left (opened_is (end_at side d).auto.state opened))
+      ((turn side d e narrow h).left (opened_is (end_at side d).auto.state opened))
 
   -- one event later
   pub waits_on : (out : Type 0) (side : Side) (d : Duet) (e : Event) → NarrowIfTaken e.what d → Fine d →
@@ -57,8 +57,8 @@ module _ (sa sb : Setup) (keeps_a keeps_b : List ConfigOption → Type 0) (allow
   waits_on out side d e narrow h before after (inl k) = inl k
   waits_on out side d e narrow h before after (inr k) =
       ⊎_elim (λ o. inl (before (not_opened (end_beyond side d).auto.state o)))
-          (⊎_elim (λ o. inl (after (not_opened (end_beyond side (happens sa sb d e)).auto.state o))) (λ w. inr w))
-          ((turn side d e narrow h).onward k)
+      (⊎_elim (λ o. inl (after (not_opened (end_beyond side (happens sa sb d e)).auto.state o))) (λ w. inr w))
+      ((turn side d e narrow h).onward k)
 
   -- an end enters Opened
   pub waits_entered : (out : Type 0) (side : Side) (d : Duet) (e : Event) → NarrowIfTaken e.what d → Fine d → IsOpenedAt side (happens sa sb d e) → Waits out side d → out
@@ -84,7 +84,7 @@ module _ (sa sb : Setup) (keeps_a keeps_b : List ConfigOption → Type 0) (allow
       let Out = IsOnceOut sa sb side (e ∷ es) d in
       let later : Fine d' = (event_goes sa sb keeps_a keeps_b allows_a allows_b compat used_a used_b d e narrow.0 h).holds in
       ⊎_elim {C = Out} (λ o. o) (λ w. inr (once_out side es enter d' narrow.1 later opened (inr w)))
-          (waits_on Out side d e narrow.0 h (λ o. inl o) (λ o. inr (first_out side es d' o)) (inr k))
+      (waits_on Out side d e narrow.0 h (λ o. inl o) (λ o. inr (first_out side es d' o)) (inr k))
 
 module _ (ta tb : Table) (sends_a sends_b : List ConfigOption → Type 0) (unknown_a unknown_b : ConfigOption → Type 0) (allows_a allows_b compat : List ConfigOption → List ConfigOption → Type 0)
     (lawful_a : Lawful ta sends_a unknown_a allows_a compat) (lawful_b : Lawful tb sends_b unknown_b allows_b compat) where
@@ -107,16 +107,16 @@ module _ (ta tb : Table) (sends_a sends_b : List ConfigOption → Type 0) (unkno
       let d = run sa sb before (start sa sb) in
       let d' = happens sa sb d leave in
       let h = run_holds sa sb sends_a sends_b allows_a allows_b compat used_a used_b before (start sa sb) (narrow_front sa sb before rest (start sa sb) narrow)
-          (start_holds sa sb sends_a sends_b allows_a allows_b compat used_a used_b) in
+      (start_holds sa sb sends_a sends_b allows_a allows_b compat used_a used_b) in
       let onward = narrow_back sa sb before rest (start sa sb) narrow in
       let h' = (event_goes sa sb sends_a sends_b allows_a allows_b compat used_a used_b d leave onward.0 h).holds in
       once_out sa sb sends_a sends_b allows_a allows_b compat used_a used_b side between enter d' onward.1 h' entered
-          (inr (waits_left sa sb sends_a sends_b allows_a allows_b compat used_a used_b side d leave onward.0 h opened
-              (begins_out sa sb sends_a sends_b allows_a allows_b compat used_a used_b side between d' out)))
+      (inr (waits_left sa sb sends_a sends_b allows_a allows_b compat used_a used_b side d leave onward.0 h opened
+      (begins_out sa sb sends_a sends_b allows_a allows_b compat used_a used_b side between d' out)))
 
   pub reopening : Reopening ta tb
   reopening first_a first_b side before leave between enter narrow opened out entered =
       let sa : Setup = record { table = ta; first = first_a } in
       let sb : Setup = record { table = tb; first = first_b } in
       reopening_where_taken first_a first_b side before leave between enter
-          (where_taken sa sb (before ++ leave ∷ (between ++ enter ∷ [])) (start sa sb) narrow) opened out entered
+      (where_taken sa sb (before ++ leave ∷ (between ++ enter ∷ [])) (start sa sb) narrow) opened out entered

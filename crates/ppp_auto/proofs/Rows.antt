@@ -6,14 +6,14 @@ use Rattle.ppp_auto.specs.declared.row.Input.{Input}
 use Rattle.ppp_auto.specs.declared.row.Input.TheVariants.{RequestGood, AckCame}
 use Rattle.ppp_auto.specs.declared.row.Action.{Action}
 use Rattle.ppp_auto.specs.declared.row.Action.TheVariants.{ThisUp, ThisDown, ThisStarted, ThisFinished, InitRestart, ZeroRestart, SendRequest, RepeatRequest, SendAck, SendNak, SendTerminate, SendTerminateAck, SendCodeReject, SendEchoReply}
-use Rattle.ppp_auto.specs.Automaton.{Auto, last_id, Taken, is_heard, has_acked, is_idle, is_opened, is_stopped, begins_anew, judging, does_row, after, Effect, Sends, Tells, answering, effect_of, effects}
-use Rattle.ppp_auto.specs.Duet.{End, Marked, Setup, does, does_if, mark_of, marked, is_off}
+use Rattle.ppp_auto.specs.Automaton.{Auto, last_id, Taken, is_heard, has_acked, is_idle, is_opened, is_stopped, begins_anew, judging, does_row, after, Effect, answering, effects}
+use Rattle.ppp_auto.specs.Duet.{End, Marked, Setup, does, marked, is_off}
 use Rattle.ppp_auto.specs.Packets.{Packet, Request, Ack, Nak, Reject, Other}
 use Rattle.ppp_auto.specs.Rows.{row_of, asks, acks}
 use Rattle.ppp_auto.specs.Table.{Table}
 use Rattle.ppp_auto.proofs.Acceptance.{Answering}
 use Rattle.ppp_auto.proofs.Arithmetic.{id_of, last_is, next_is}
-use Rattle.ppp_auto.proofs.Cells.{is_request, is_low, answers, heard_asks_nothing, heard_from, acked_from, acks_good, acks_unasked, acks_anew, answers_on, low_stays, opened_left, request_ends}
+use Rattle.ppp_auto.proofs.Cells.{is_request, answers, heard_asks_nothing, heard_from, acked_from, acks_good, acks_unasked, acks_anew, answers_on, low_stays, opened_left, request_ends}
 use Rattle.ppp_auto.proofs.Moved.{Sent, Stood, Fresh, Moved}
 use Rattle.ppp_auto.proofs.Queues.{Every}
 
@@ -153,7 +153,7 @@ module _ (s : Setup) (first_y : ℕ) (keeps_x keeps_y : List ConfigOption → Ty
       Stood x (does s (record x { got = got }) input taken mark word).end ⊎ Fresh keeps_y allows_x (does s (record x { got = got }) input taken mark word).end y
   acked_if x y got input taken mark word ready acked =
       ⊎_elim (λ h. inr (fresh_if x y got input taken mark word ready h)) (λ h. inl (stood_if x y got input taken mark word ready acked h))
-          (either (acks (row_of input x.auto.state).actions))
+      (either (acks (row_of input x.auto.state).actions))
 
   heard_if : (x y : End) (got : ℕ) (input : Input) (taken : Taken) (mark word : ℕ) →
       (is_heard x.auto.state ≡ true → y.got ≡ x.n) →
@@ -201,14 +201,14 @@ module _ (s : Setup) (first_y : ℕ) (keeps_x keeps_y : List ConfigOption → Ty
   pub rest_moves : (x y : End) (got : ℕ) → got ≡ x.got → x.auto.next_id % 256 ≡ (s.first + x.n) % 256 → (is_heard x.auto.state ≡ true → y.got ≡ x.n) → keeps_x x.auto.own →
       Moved s.first first_y keeps_x keeps_y allows_x x y (record x { got = got }) []
   rest_moves x y got e ids heard own = record {
-      ids = ids;
-      more = omega arith;
-      same = λ _. refl;
-      sends = tt;
-      heard = heard;
-      keeps_own = own;
-      acked = λ h. inl (record { before = h; peer = refl; got = e; against = refl });
-      low = λ h. inl h;
-      left = λ h. inl h;
-      took = inl e;
-    }
+    ids = ids;
+    more = omega arith;
+    same = λ _. refl;
+    sends = tt;
+    heard = heard;
+    keeps_own = own;
+    acked = λ h. inl (record { before = h; peer = refl; got = e; against = refl });
+    low = λ h. inl h;
+    left = λ h. inl h;
+    took = inl e;
+  }

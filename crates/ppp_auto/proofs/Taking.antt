@@ -4,18 +4,17 @@ use Rattle.std.proofs.lemmas.Bool.Decides.{nat_tests}
 use Rattle.ppp_packet.specs.ConfigOption.{ConfigOption}
 use Rattle.ppp_auto.specs.declared.row.Input.{Input}
 use Rattle.ppp_auto.specs.declared.row.Input.TheVariants.{AckCame, NakCame, TerminateRequestCame, TerminateAckCame, UnknownCode, RejectedWell, RejectedBadly, EchoCame}
-use Rattle.ppp_auto.specs.Automaton.{Auto, last_id, Taken, taken_as, is_idle, is_heard, is_stopped, judging, is_ack_of, is_nak_of, is_reject_of, nak_taken, code_reject_input, rejected_protocol, four_octets, echo_answer, unknown_taken, extended_taken, is_extended_code, kind}
-use Rattle.ppp_auto.specs.Duet.{End, Marked, Setup, Did, does, does_if, takes, got_after, is_off}
+use Rattle.ppp_auto.specs.Automaton.{last_id, Taken, taken_as, is_idle, is_heard, is_stopped, judging, is_ack_of, is_nak_of, is_reject_of, nak_taken, code_reject_input, rejected_protocol, four_octets, echo_answer, unknown_taken, extended_taken, is_extended_code, kind}
+use Rattle.ppp_auto.specs.Duet.{End, Marked, Setup, does, does_if, takes, got_after, is_off}
 use Rattle.ppp_auto.specs.Judging.{reply_to, same_list}
 use Rattle.ppp_auto.specs.Packets.{Packet, Request, Ack, Nak, Reject, Other}
-use Rattle.ppp_auto.specs.Table.{Table}
 use Rattle.ppp_auto.proofs.Acceptance.{accepted_passes, answer_to, request_to}
-use Rattle.ppp_auto.proofs.Arithmetic.{id_of, same_ordinal, last_is}
+use Rattle.ppp_auto.proofs.Arithmetic.{same_ordinal, last_is}
 use Rattle.ppp_auto.proofs.Cells.{is_request, good_is_request, ack_is_none}
 use Rattle.ppp_auto.proofs.Invariant.{Asked, Acked}
 use Rattle.ppp_auto.proofs.Kept.{Used}
 use Rattle.ppp_auto.proofs.Moved.{Moved}
-use Rattle.ppp_auto.proofs.Rows.{AnswerOf, Granted, Ready, if_true, if_false, row_moves, rest_moves}
+use Rattle.ppp_auto.proofs.Rows.{AnswerOf, Ready, if_false, row_moves, rest_moves}
 
 -- the Identifier of an Ack that counts
 ack_names : (idle same : Bool) (id last : ℕ) → (idle || ((id == last) && same)) ≡ true → idle ≡ false → id ≡ last
@@ -43,12 +42,12 @@ module _ (s : Setup) (first_y : ℕ) (keeps_x keeps_y : List ConfigOption → Ty
   pub plain : (x y : End) (input : Input) (taken : Taken) (mark word : ℕ) → keeps_x taken.adapted → AnswerOf first_y x.got mark taken.answer →
       is_request input ≡ false → (input ≡ AckCame → ⊥) → Ready first_y keeps_x keeps_y allows_x s.table x y x.got input taken mark word
   plain x y input taken mark word adapted answer h k = record {
-      adapted = adapted;
-      answer = λ _. answer;
-      granted = λ good _. absurd (good_is_request input h good);
-      heard = λ acked _. absurd (k acked);
-      got_else = λ _. refl;
-    }
+    adapted = adapted;
+    answer = λ _. answer;
+    granted = λ good _. absurd (good_is_request input h good);
+    heard = λ acked _. absurd (k acked);
+    got_else = λ _. refl;
+  }
 
   keeps_judging : (b : Bool) (first own : List ConfigOption) → keeps_x first → keeps_x own → keeps_x (if b then first else own)
   keeps_judging true first own h k = h
@@ -81,15 +80,15 @@ module _ (s : Setup) (first_y : ℕ) (keeps_x keeps_y : List ConfigOption → Ty
       x.auto.next_id % 256 ≡ (s.first + x.n) % 256 → Acked s.first y.got mark (Ack id options) → y.got ≤ x.n → x.n ≤ mark + 255 → is_ack_of x.auto id options ≡ b →
       ReadyIf x y x.got (if b then Some AckCame else None) (taken_as x.auto (if b then Some AckCame else None) id) mark word
   ack_ready_if x y mark id options word true own ids acked below near e = record {
-      adapted = own;
-      answer = λ _. tt;
-      granted = λ good _. absurd (good_is_request AckCame refl good);
-      heard = λ _ busy.
-          let named = ack_names (is_idle x.auto.state) (same_list options x.auto.own) id (last_id x.auto) e busy in
-          let newest : mark ≡ x.n = same_ordinal s.first mark x.n (sym acked.0 ∙ named ∙ last_is s.first x.auto.next_id x.n ids) (omega (arith, acked.1)) near in
-          omega (arith, acked.1);
-      got_else = λ _. refl;
-    }
+    adapted = own;
+    answer = λ _. tt;
+    granted = λ good _. absurd (good_is_request AckCame refl good);
+    heard = λ _ busy.
+        let named = ack_names (is_idle x.auto.state) (same_list options x.auto.own) id (last_id x.auto) e busy in
+        let newest : mark ≡ x.n = same_ordinal s.first mark x.n (sym acked.0 ∙ named ∙ last_is s.first x.auto.next_id x.n ids) (omega (arith, acked.1)) near in
+        omega (arith, acked.1);
+    got_else = λ _. refl;
+  }
   ack_ready_if x y mark id options word false own ids acked below near e = refl
 
   nak_ready_if : (x y : End) (mark id : ℕ) (adapted : List ConfigOption) (word : ℕ) (b : Bool) → keeps_x adapted →
@@ -119,9 +118,9 @@ module _ (s : Setup) (first_y : ℕ) (keeps_x keeps_y : List ConfigOption → Ty
       let echo : Taken = record (taken_as x.auto (Some EchoCame) id) { answer = echo_answer s.table x.auto code id octets } in
       let rejects : Taken = record (taken_as x.auto None id) { rejects = rejected_protocol x.auto.state octets } in
       at_either P (code == 8) rejects (if nat_lt (length octets) 4 then taken_as x.auto None id else echo) refl
-          (at_either P (nat_lt (length octets) 4) (taken_as x.auto None id) echo refl
-              (plain x y EchoCame echo mark word own
-                  (echo_plain x.got mark (code == 9) id (take (x.auto.cap - 4) (four_octets (s.table.magic x.auto.own) ++ drop 4 octets))) refl (λ e. cc)))
+      (at_either P (nat_lt (length octets) 4) (taken_as x.auto None id) echo refl
+      (plain x y EchoCame echo mark word own
+      (echo_plain x.got mark (code == 9) id (take (x.auto.cap - 4) (four_octets (s.table.magic x.auto.own) ++ drop 4 octets))) refl (λ e. cc)))
 
   other_ready : (x y : End) (mark code id : ℕ) (octets : List ℕ) (word : ℕ) → keeps_x x.auto.own →
       ReadyIf x y x.got (kind s.table x.auto (Other code id octets) word).input (kind s.table x.auto (Other code id octets) word) mark word
@@ -132,14 +131,14 @@ module _ (s : Setup) (first_y : ℕ) (keeps_x keeps_y : List ConfigOption → Ty
       let rejected = (if code == 7 then taken_as a (code_reject_input octets) id else unknown) in
       let terminated = (if code == 6 then taken_as a (Some TerminateAckCame) id else rejected) in
       at_either P (code == 5) (taken_as a (Some TerminateRequestCame) id) terminated
-          (plain x y TerminateRequestCame (taken_as a (Some TerminateRequestCame) id) mark word own tt refl (λ e. cc))
-          (at_either P (code == 6) (taken_as a (Some TerminateAckCame) id) rejected
-              (plain x y TerminateAckCame (taken_as a (Some TerminateAckCame) id) mark word own tt refl (λ e. cc))
-              (at_either P (code == 7) (taken_as a (code_reject_input octets) id) unknown
-                  (code_reject_ready x y mark id octets word own)
-                  (at_either P (s.table.extended && is_extended_code code) (extended_taken s.table a code id octets) (unknown_taken a code id octets)
-                      (extended_ready x y mark code id octets word own)
-                      (plain x y UnknownCode (unknown_taken a code id octets) mark word own tt refl (λ e. cc)))))
+      (plain x y TerminateRequestCame (taken_as a (Some TerminateRequestCame) id) mark word own tt refl (λ e. cc))
+      (at_either P (code == 6) (taken_as a (Some TerminateAckCame) id) rejected
+      (plain x y TerminateAckCame (taken_as a (Some TerminateAckCame) id) mark word own tt refl (λ e. cc))
+      (at_either P (code == 7) (taken_as a (code_reject_input octets) id) unknown
+      (code_reject_ready x y mark id octets word own)
+      (at_either P (s.table.extended && is_extended_code code) (extended_taken s.table a code id octets) (unknown_taken a code id octets)
+      (extended_ready x y mark code id octets word own)
+      (plain x y UnknownCode (unknown_taken a code id octets) mark word own tt refl (λ e. cc)))))
 
   packet_ready : (x y : End) (mark : ℕ) (p : Packet) (word : ℕ) → Used s.table keeps_x allows_x compat → keeps_x x.auto.own →
       x.auto.next_id % 256 ≡ (s.first + x.n) % 256 → y.got ≤ x.n → Asked first_y keeps_y y.n y.auto.own mark p → Acked s.first y.got mark p → Near x.n mark p →
@@ -168,7 +167,7 @@ module _ (s : Setup) (first_y : ℕ) (keeps_x keeps_y : List ConfigOption → Ty
   packet_moves x y m word used own ids heard below asked acked near =
       let taken = kind s.table x.auto m.packet word in
       if_moves x y (got_after x m.mark m.packet) taken.input taken m.mark word used own ids heard
-          (packet_ready x y m.mark m.packet word used own ids below asked acked near)
+      (packet_ready x y m.mark m.packet word used own ids below asked acked near)
 
 got_if : (s : Setup) (e : End) (input : Option Input) (taken : Taken) (mark word : ℕ) → (does_if s e input taken mark word).end.got ≡ e.got
 unfolding does

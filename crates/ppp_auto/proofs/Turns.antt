@@ -1,5 +1,5 @@
 -- What one event means for an end that has left Opened and may enter it again.
-use Rattle.std.proofs.Common.{◌≡◌, ℕ, ◌≤◌, ◌<◌, ◌⊎◌, inl, inr, ⊎_elim, Bool, true, false, List, [], ◌∷◌, refl, sym, ◌∙◌, arith}
+use Rattle.std.proofs.Common.{◌≡◌, ℕ, ◌≤◌, ◌<◌, ◌⊎◌, inl, inr, ⊎_elim, true, false, List, arith}
 use Rattle.std.proofs.Math.Logic.{⊎_map}
 use Rattle.ppp_packet.specs.ConfigOption.{ConfigOption}
 use Rattle.ppp_auto.specs.Automaton.{is_heard, is_opened}
@@ -30,10 +30,10 @@ module _ (first_x first_y : ℕ) (keeps_x keeps_y : List ConfigOption → Type 0
   -- the end itself moved
   pub turn_mine : (x y x' : End) (sent : List Marked) → y.got ≤ x.n → Moved first_x first_y keeps_x keeps_y allows_x x y x' sent → Turn x y x' y
   turn_mine x y x' sent below m = record {
-      left = λ opened. ⊎_map (λ h. h) (⊎_elim (λ h. inr h) (λ (h : x.n < x'.n). inl (omega arith))) (m.left opened);
-      onward = λ away. inr (inr (away_mine x y x' sent below m away));
-      enters = λ away opened. opened_here x' y m.heard opened (away_mine x y x' sent below m away);
-    }
+    left = λ opened. ⊎_map (λ h. h) (⊎_elim (λ h. inr h) (λ (h : x.n < x'.n). inl (omega arith))) (m.left opened);
+    onward = λ away. inr (inr (away_mine x y x' sent below m away));
+    enters = λ away opened. opened_here x' y m.heard opened (away_mine x y x' sent below m away);
+  }
 
   away_other : (x y x' : End) (sent : List Marked) → Moved first_x first_y keeps_x keeps_y allows_x x y x' sent → Away y x →
       (is_opened x.auto.state ≡ false) ⊎ (is_opened x'.auto.state ≡ false) ⊎ Away y x'
@@ -49,15 +49,15 @@ module _ (first_x first_y : ℕ) (keeps_x keeps_y : List ConfigOption → Type 0
   -- the other end moved
   pub turn_other : (x y x' : End) (sent : List Marked) → (is_heard y.auto.state ≡ true → x.got ≡ y.n) → Moved first_x first_y keeps_x keeps_y allows_x x y x' sent → Turn y x y x'
   turn_other x y x' sent heard m = record {
-      left = λ opened. inl opened;
-      onward = away_other x y x' sent m;
-      enters = λ away opened. opened_here y x heard opened away;
-    }
+    left = λ opened. inl opened;
+    onward = away_other x y x' sent m;
+    enters = λ away opened. opened_here y x heard opened away;
+  }
 
 -- an end comes into a low state, whatever becomes of the other
 pub turn_low : (e f e' f' : End) → is_low e'.auto.state ≡ true → Turn e f e' f'
 turn_low e f e' f' low = record {
-    left = λ _. inr (inr low);
-    onward = λ _. inr (inr (inr low));
-    enters = λ _ opened. let not : is_opened e'.auto.state ≡ false = low_not_opened e'.auto.state low in cc;
-  }
+  left = λ _. inr (inr low);
+  onward = λ _. inr (inr (inr low));
+  enters = λ _ opened. let not : is_opened e'.auto.state ≡ false = low_not_opened e'.auto.state low in cc;
+}
