@@ -105,3 +105,27 @@ pub answer_to : (t : Table) (own : List ConfigOption) (first got mark naks word 
 answer_to t own first got mark naks word id theirs e h =
     let judge : ConfigOption → Verdict = λ o. t.judge own o word in
     answer_with first got mark naks id theirs (rejected judge [] theirs) (suggested judge theirs) (as_list (t.missing own theirs word)) (unacceptable judge theirs) e h
+
+-- a request is never answered by a request
+abbrev pub IsReply : Packet → Type 0
+IsReply (Request id options) = ⊥
+IsReply (Ack id options) = Unit {0}
+IsReply (Nak id options) = Unit {0}
+IsReply (Reject id options) = Unit {0}
+IsReply (Other code id octets) = Unit {0}
+
+reply_if : (b : Bool) (p q : Packet) → IsReply p → IsReply q → IsReply (if b then refusing p else refusing q).answer
+reply_if true p q h k = h
+reply_if false p q h k = k
+
+reply_is : (naks id : ℕ) (theirs refused better missing bad : List ConfigOption) → IsReply (reply_with naks id theirs refused better missing bad).answer
+reply_is naks id theirs [] [] [] bad = tt
+reply_is naks id theirs [] [] (o ∷ missing) bad = tt
+reply_is naks id theirs [] (o ∷ better) missing bad =
+    reply_if (nat_le max_failure naks) (Reject id (fitting reject_room bad)) (Nak id ((o ∷ better) ++ missing)) tt tt
+reply_is naks id theirs (o ∷ refused) better missing bad = tt
+
+pub reply_to_is : (t : Table) (own : List ConfigOption) (naks word id : ℕ) (theirs : List ConfigOption) → IsReply (reply_to t own naks word id theirs).answer
+reply_to_is t own naks word id theirs =
+    let judge : ConfigOption → Verdict = λ o. t.judge own o word in
+    reply_is naks id theirs (rejected judge [] theirs) (suggested judge theirs) (as_list (t.missing own theirs word)) (unacceptable judge theirs)

@@ -12,5 +12,6 @@ pub mod Reached
 pub mod Reopening
 pub mod Rows
 pub mod Runs
+pub mod Spans
 pub mod Taking
 pub mod Turns

@@ -28,7 +28,7 @@ Near n mark (Nak id options) = Unit {0}
 Near n mark (Reject id options) = Unit {0}
 Near n mark (Other code id octets) = Unit {0}
 
-at_either : (P : Taken → Type 0) (b : Bool) (one other : Taken) → P one → P other → P (if b then one else other)
+pub at_either : (P : Taken → Type 0) (b : Bool) (one other : Taken) → P one → P other → P (if b then one else other)
 at_either P true one other h k = h
 at_either P false one other h k = k
 
