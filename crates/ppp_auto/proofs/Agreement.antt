@@ -1,9 +1,9 @@
 -- Two Opened ends agree.
-use Rattle.std.proofs.Common.{◌≡◌, ℕ, ⊎_elim, true, List, sym}
+use Rattle.std.proofs.Common.{◌≡◌, ℕ, ⊎_elim, true, Some, List, sym}
 use Rattle.ppp_packet.specs.ConfigOption.{ConfigOption}
 use Rattle.ppp_auto.specs.declared.state.AutoState.{AutoState}
 use Rattle.ppp_auto.specs.declared.state.AutoState.TheVariants.{Opened}
-use Rattle.ppp_auto.specs.Automaton.{is_heard, has_acked}
+use Rattle.ppp_auto.specs.Automaton.{Auto, is_heard, has_acked, mine_of, peer_of}
 use Rattle.ppp_auto.specs.Duet.{Duet, Setup, Event, run, start}
 use Rattle.ppp_auto.specs.Lawful.{Lawful}
 use Rattle.ppp_auto.specs.Table.{Table}
@@ -18,6 +18,13 @@ heard_there s e = rw e
 
 acked_there : (s : AutoState) → s ≡ Opened → has_acked s ≡ true
 acked_there s e = rw e
+
+-- the granted lists of an Opened end
+pub opened_mine : (a : Auto) → a.state ≡ Opened → mine_of a ≡ Some a.own
+opened_mine a e = rw e
+
+pub opened_peer : (a : Auto) → a.state ≡ Opened → peer_of a ≡ Some a.peer
+opened_peer a e = rw e
 
 -- it reads off the invariant
 pub opened_agree : (sa sb : Setup) (sends_a sends_b : List ConfigOption → Type 0) (allows_a allows_b compat : List ConfigOption → List ConfigOption → Type 0) →

@@ -31,6 +31,15 @@ reached_on sa sb d e narrow r = record {
   ends = run_append sa sb r.events (e ∷ []) (start sa sb) ∙ ap (λ x. happens sa sb x e) r.ends;
 }
 
+-- a whole run
+pub reached_run : (sa sb : Setup) (es : List Event) → IsNarrowWhereTaken sa sb es (start sa sb) → Reached sa sb (run sa sb es (start sa sb))
+reached_run sa sb es narrow = record { events = es; narrow = narrow; ends = refl }
+
+-- several events more
+pub reached_more : (sa sb : Setup) (d : Duet) (es : List Event) → IsNarrowWhereTaken sa sb es d → Reached sa sb d → Reached sa sb (run sa sb es d)
+reached_more sa sb d [] narrow r = r
+reached_more sa sb d (e ∷ es) narrow r = reached_more sa sb (happens sa sb d e) es narrow.1 (reached_on sa sb d e narrow.0 r)
+
 -- each request of a queue has a list of that property
 abbrev pub IsKeptIn : (List ConfigOption → Type 0) → ℕ → Packet → Type 0
 IsKeptIn keeps mark (Request id options) = keeps options

@@ -1,16 +1,15 @@
 -- A span gets larger only where an ordinal rises.
-use Rattle.std.proofs.Common.{◌≡◌, ℕ, zero, suc, ◌+◌, ◌-◌, ◌≤◌, min, Bool, true, false, ◌&&◌, ◌||◌, ◌==◌, nat_lt, nat_le, if◌then◌else◌, List, [], ◌∷◌, ◌++◌, length, take, drop, Option, Some, None, refl, arith}
+use Rattle.std.proofs.Common.{◌≡◌, ℕ, ◌+◌, ◌-◌, ◌≤◌, Bool, true, false, ◌&&◌, ◌==◌, nat_lt, if◌then◌else◌, List, [], ◌∷◌, ◌++◌, length, take, drop, Option, Some, None, refl, arith}
 use Rattle.ppp_packet.specs.ConfigOption.{ConfigOption}
-use Rattle.ppp_auto.specs.declared.state.AutoEvent.{AutoEvent}
 use Rattle.ppp_auto.specs.declared.row.Input.{Input}
-use Rattle.ppp_auto.specs.declared.row.Input.TheVariants.{Down, TerminateRequestCame, TerminateAckCame, EchoCame}
+use Rattle.ppp_auto.specs.declared.row.Input.TheVariants.{TerminateRequestCame, TerminateAckCame, EchoCame}
 use Rattle.ppp_auto.specs.declared.row.Action.{Action}
 use Rattle.ppp_auto.specs.declared.row.Action.TheVariants.{ThisUp, ThisDown, ThisStarted, ThisFinished, InitRestart, ZeroRestart, SendRequest, RepeatRequest, SendAck, SendNak, SendTerminate, SendTerminateAck, SendCodeReject, SendEchoReply}
-use Rattle.ppp_auto.specs.Automaton.{Auto, Taken, taken_as, input_of, judging, is_nak_of, is_reject_of, nak_taken, four_octets, code_reject_input, rejected_protocol, echo_answer, unknown_taken, extended_taken, is_extended_code, kind, does_row, after, Effect, Sends, Tells, answering, effect_of, effects}
-use Rattle.ppp_auto.specs.Duet.{End, Marked, Duet, Setup, Side, A, B, Happening, Commands, SetsCap, RejectsProtocol, Delivers, Loses, Reboots, Event, marked, does, does_if, takes, got_after, requests, request_mark, answers, answer_mark, least, without, turned, delivers, commands, reboots, at_first, at_side, happens, Narrow, span_of, widest}
+use Rattle.ppp_auto.specs.Automaton.{Auto, Taken, taken_as, input_of, judging, is_nak_of, is_reject_of, nak_taken, four_octets, code_reject_input, rejected_protocol, echo_answer, unknown_taken, extended_taken, is_extended_code, kind, does_row, after, Effect, answering, effects}
+use Rattle.ppp_auto.specs.Duet.{End, Marked, Duet, Setup, Side, A, B, Happening, Commands, SetsCap, RejectsProtocol, Delivers, Loses, Reboots, Event, marked, does, does_if, start, takes, got_after, requests, request_mark, answers, answer_mark, least, without, turned, delivers, reboots, at_first, at_side, happens, Narrow, span_of, widest}
 use Rattle.ppp_auto.specs.Judging.{reply_to}
 use Rattle.ppp_auto.specs.Packets.{Packet, Request, Ack, Nak, Reject, Other}
-use Rattle.ppp_auto.specs.Rows.{row_of, asks}
+use Rattle.ppp_auto.specs.Rows.{row_of}
 use Rattle.ppp_auto.specs.Table.{Table}
 use Rattle.ppp_auto.proofs.Acceptance.{IsReply, reply_to_is}
 use Rattle.ppp_auto.proofs.Queues.{Every, every_weaker, every_append, every_without}
@@ -227,8 +226,8 @@ extended_near t a other mark code id octets =
     let echo : Taken = record (taken_as a (Some EchoCame) id) { answer = echo_answer t a code id octets } in
     let rejects : Taken = record (taken_as a None id) { rejects = rejected_protocol a.state octets } in
     at_either P (code == 8) rejects (if nat_lt (length octets) 4 then taken_as a None id else echo) tt
-        (at_either P (nat_lt (length octets) 4) (taken_as a None id) echo tt
-            (echo_near other mark (code == 9) id (take (a.cap - 4) (four_octets (t.magic a.own) ++ drop 4 octets))))
+    (at_either P (nat_lt (length octets) 4) (taken_as a None id) echo tt
+    (echo_near other mark (code == 9) id (take (a.cap - 4) (four_octets (t.magic a.own) ++ drop 4 octets))))
 
 other_near : (t : Table) (a : Auto) (other mark code id : ℕ) (octets : List ℕ) (word : ℕ) → ReplyNear other mark (kind t a (Other code id octets) word).answer
 other_near t a other mark code id octets word =
@@ -237,10 +236,10 @@ other_near t a other mark code id octets word =
     let rejected = (if code == 7 then taken_as a (code_reject_input octets) id else unknown) in
     let terminated = (if code == 6 then taken_as a (Some TerminateAckCame) id else rejected) in
     at_either P (code == 5) (taken_as a (Some TerminateRequestCame) id) terminated tt
-        (at_either P (code == 6) (taken_as a (Some TerminateAckCame) id) rejected tt
-            (at_either P (code == 7) (taken_as a (code_reject_input octets) id) unknown tt
-                (at_either P (t.extended && is_extended_code code) (extended_taken t a code id octets) (unknown_taken a code id octets)
-                    (extended_near t a other mark code id octets) tt)))
+    (at_either P (code == 6) (taken_as a (Some TerminateAckCame) id) rejected tt
+    (at_either P (code == 7) (taken_as a (code_reject_input octets) id) unknown tt
+    (at_either P (t.extended && is_extended_code code) (extended_taken t a code id octets) (unknown_taken a code id octets)
+    (extended_near t a other mark code id octets) tt)))
 
 -- the answer to a request that is near
 packet_near : (t : Table) (a : Auto) (other mark : ℕ) (p : Packet) (word : ℕ) → RequestNear other mark p → ReplyNear other mark (kind t a p word).answer
@@ -262,15 +261,15 @@ takes_near s e m word other h =
 narrow_after : (a b x : End) (to_b rest sent : List Marked) → x.n ≤ a.n → Every (RequestNear a.n) to_b → Every (AnswerNear b.n) to_b →
     Every (RequestNear b.n) rest → Every (AnswerNear a.n) rest → Every (SentNear x.n b.n) sent → Narrow (record { a = x; b = b; to_a = rest; to_b = to_b ++ sent })
 narrow_after a b x to_b rest sent still asked answered asked_rest answered_rest near = record {
-    of_a = of_spans x.n (to_b ++ sent) rest (record {
-      asked = every_append (RequestNear x.n) to_b sent (every_weaker (request_still a.n x.n still) to_b asked) (every_weaker (sent_request x.n b.n) sent near);
-      answered = every_weaker (answer_still a.n x.n still) rest answered_rest;
-    });
-    of_b = of_spans b.n rest (to_b ++ sent) (record {
-      asked = asked_rest;
-      answered = every_append (AnswerNear b.n) to_b sent answered (every_weaker (sent_answer x.n b.n) sent near);
-    });
-  }
+  of_a = of_spans x.n (to_b ++ sent) rest (record {
+    asked = every_append (RequestNear x.n) to_b sent (every_weaker (request_still a.n x.n still) to_b asked) (every_weaker (sent_request x.n b.n) sent near);
+    answered = every_weaker (answer_still a.n x.n still) rest answered_rest;
+  });
+  of_b = of_spans b.n rest (to_b ++ sent) (record {
+    asked = asked_rest;
+    answered = every_append (AnswerNear b.n) to_b sent answered (every_weaker (sent_answer x.n b.n) sent near);
+  });
+}
 
 narrow_delivered : (s : Setup) (a b : End) (to_a to_b : List Marked) (word : ℕ) → let d : Duet = record { a = a; b = b; to_a = to_a; to_b = to_b } in
     (delivers s d to_a word).a.n ≤ a.n → Narrow d → Narrow (delivers s d to_a word)
@@ -279,7 +278,7 @@ narrow_delivered s a b (m ∷ rest) to_b word still h =
     let mine = spans_of a.n to_b (m ∷ rest) h.of_a in
     let theirs = spans_of b.n (m ∷ rest) to_b h.of_b in
     narrow_after a b (takes s a m word).end to_b rest (takes s a m word).sent still mine.asked theirs.answered theirs.asked.1 mine.answered.1
-        (takes_near s a m word b.n theirs.asked.0)
+    (takes_near s a m word b.n theirs.asked.0)
 
 narrow_first : (sa sb : Setup) (d : Duet) (what : Happening) (word : ℕ) → (at_first sa sb d what word).a.n ≤ d.a.n → (at_first sa sb d what word).b.n ≤ d.b.n →
     Narrow d → Narrow (at_first sa sb d what word)
@@ -290,7 +289,7 @@ narrow_first sa sb d (Commands e) word still_a still_b h =
     let input = input_of d.a.auto e in
     let did = does sa d.a input (taken_as d.a.auto (Some input) 0) 0 word in
     narrow_after d.a d.b did.end d.to_b d.to_a did.sent still_a mine.asked theirs.answered theirs.asked mine.answered
-        (does_near sa d.a input (taken_as d.a.auto (Some input) 0) 0 word d.b.n tt)
+    (does_near sa d.a input (taken_as d.a.auto (Some input) 0) 0 word d.b.n tt)
 narrow_first sa sb d (SetsCap cap) word still_a still_b h = record { of_a = h.of_a; of_b = h.of_b }
 narrow_first sa sb d (RejectsProtocol id octets) word still_a still_b h =
     let mine = spans_of d.a.n d.to_b d.to_a h.of_a in
@@ -318,3 +317,6 @@ narrow_at B sa sb d what word still_a still_b h =
 -- An event in which no ordinal rises keeps a state narrow, whatever the tables.
 pub narrow_still : (sa sb : Setup) (d : Duet) (e : Event) → (happens sa sb d e).a.n ≤ d.a.n → (happens sa sb d e).b.n ≤ d.b.n → Narrow d → Narrow (happens sa sb d e)
 narrow_still sa sb d e still_a still_b h = narrow_at e.side sa sb d e.what e.word still_a still_b h
+
+pub narrow_start : (sa sb : Setup) → Narrow (start sa sb)
+narrow_start sa sb = record { of_a = omega arith; of_b = omega arith }
