@@ -1,6 +1,6 @@
 -- Facts on lists of options: what is written reads as the same list, and nothing else reads so.
-use Rattle.std.proofs.Common.{◌≡◌, ℕ, zero, suc, ◌+◌, ◌-◌, ◌<◌, ◌≤◌, ◌≢◌, ◌⊎◌, Bool, true, false, List, [], ◌∷◌, ◌++◌, length, take, drop, refl, sym, ◌∙◌, ap, subst, inl, inr, arith, length-append, length-drop, append_assoc}
-use Rattle.std.specs.Prelude.{Option, Some, None, ◌||◌, nat_lt, if◌then◌else◌, nat_eq, is_some, ◌↔◌, All}
+use Rattle.std.proofs.Common.{◌≡◌, ℕ, zero, suc, ◌+◌, ◌-◌, ◌<◌, ◌≤◌, ◌≢◌, ◌⊎◌, Bool, true, false, List, [], ◌∷◌, ◌++◌, length, take, drop, get_or, refl, sym, ◌∙◌, ap, subst, inl, inr, arith, length-append, length-drop, append_assoc, append-nil}
+use Rattle.std.specs.Prelude.{Option, Some, None, ◌||◌, nat_lt, if◌then◌else◌, nat_eq, is_some, IfSome, IfNone, MatchOption, ◌↔◌, All}
 use Rattle.std.specs.Option.{option_map, unwrap_or}
 use Rattle.std.proofs.lemmas.List.{take_at, drop_at, take-append-drop, length-take-le}
 use Rattle.std.proofs.lemmas.Bool.{le-ltb, ltb-false, lt-ltb, ltb-true}
@@ -129,3 +129,65 @@ HoldsOptions-behind o bytes rest holds begins =
 pub length-written : (list : List ConfigOption) → length list ≤ length (written list)
 length-written [] = omega arith
 length-written (o ∷ os) = omega (arith, length-written os, length-append o.body (written os))
+
+pub list_of-nil : list_of [] ≡ []
+list_of-nil = list_of-read [] [] options_of-nil
+
+pub HoldsOptions-nil : HoldsOptions []
+HoldsOptions-nil = HoldsOptions-read [] [] options_of-nil
+
+pub HoldsOptions-written : (list : List ConfigOption) → HoldsOptions (written list)
+HoldsOptions-written list = HoldsOptions-read list (written list) (options_of-written list)
+
+-- octets that hold a list are empty exactly where the list is
+pub nil-from-list_of : (bytes : List ℕ) → HoldsOptions bytes → list_of bytes ≡ [] → bytes ≡ []
+nil-from-list_of bytes holds none = holds ∙ ap written none
+
+-- an option behind a list
+pub written-push : (list : List ConfigOption) (o : ConfigOption) → written (list ++ o ∷ []) ≡ written list ++ option_octets o
+written-push list o = rw (written-append list (o ∷ []), append-nil (option_octets o)) refl
+
+pub list_of-push : (bytes : List ℕ) (o : ConfigOption) → HoldsOptions bytes → list_of (bytes ++ option_octets o) ≡ list_of bytes ++ o ∷ []
+list_of-push bytes o holds =
+    let same : bytes ++ option_octets o ≡ written (list_of bytes ++ o ∷ []) = ap (λ (xs : List ℕ). xs ++ option_octets o) holds ∙ sym (written-push (list_of bytes) o) in
+    ap list_of same ∙ list_of-written (list_of bytes ++ o ∷ [])
+
+pub HoldsOptions-push : (bytes : List ℕ) (o : ConfigOption) → HoldsOptions bytes → HoldsOptions (bytes ++ option_octets o)
+HoldsOptions-push bytes o holds =
+    rw (list_of-push bytes o holds, written-push (list_of bytes) o) (ap (λ (xs : List ℕ). xs ++ option_octets o) holds)
+
+-- the same octets hold the same list
+pub list_of-same : (xs ys : List ℕ) → HoldsOptions xs → HoldsOptions ys → list_of xs ≡ list_of ys → xs ≡ ys
+list_of-same xs ys holds_xs holds_ys same = holds_xs ∙ ap written same ∙ sym holds_ys
+
+-- what a reader of the octets refuses
+pub options_of-part : (bytes : List ℕ) → 0 < length bytes → length bytes < 2 → options_of bytes ≡ None
+options_of-part [] some few = absurd (omega arith)
+options_of-part (kind ∷ []) some few = options_of-short kind
+options_of-part (kind ∷ len ∷ rest) some few = absurd (omega arith)
+
+pub options_of-refused : (bytes : List ℕ) (len : ℕ) → 2 ≤ length bytes → len ≡ get_or bytes 1 0 → (len < 2) ⊎ (2 ≤ len × length bytes < len) → options_of bytes ≡ None
+options_of-refused [] len some is misfit = absurd (omega arith)
+options_of-refused (kind ∷ []) len some is misfit = absurd (omega arith)
+options_of-refused (kind ∷ l ∷ rest) len some is (inl low) = options_of-misfit kind l rest (inl (omega arith))
+options_of-refused (kind ∷ l ∷ rest) len some is (inr high) = options_of-misfit kind l rest (inr (omega (arith, high.1)))
+
+-- nothing that is no list reads as one
+pub unread : (bytes : List ℕ) (list : List ConfigOption) → options_of bytes ≡ None → IsOptions list bytes → ⊥
+unread bytes list none is = let some : options_of bytes ≡ Some list = options_of-IsOptions list bytes is in cc
+
+-- of octets that hold a list and aren't empty, the first option splits the list
+pub list_of-split : {A : Type 0} (found : Option A) (o : A → ConfigOption) (rest : A → List ℕ) (bytes : List ℕ) → HoldsOptions bytes →
+    IfSome found (λ r. bytes ≡ option_octets (o r) ++ rest r) → IfNone found (options_of bytes ≡ None) →
+    MatchOption found (list_of bytes ≡ []) (λ r. list_of bytes ≡ o r ∷ list_of (rest r))
+list_of-split None o rest bytes holds some none = absurd (unread bytes (list_of bytes) none holds)
+list_of-split (Some r) o rest bytes holds some none = (HoldsOptions-behind (o r) bytes (rest r) holds some).0
+
+pub HoldsOptions-split : {A : Type 0} (found : Option A) (o : A → ConfigOption) (rest : A → List ℕ) (bytes : List ℕ) → HoldsOptions bytes →
+    IfSome found (λ r. bytes ≡ option_octets (o r) ++ rest r) → IfSome found (λ r. HoldsOptions (rest r))
+HoldsOptions-split None o rest bytes holds some = tt
+HoldsOptions-split (Some r) o rest bytes holds some = (HoldsOptions-behind (o r) bytes (rest r) holds some).1
+
+pub list_of-empty : (bytes : List ℕ) → length bytes ≡ 0 → list_of bytes ≡ []
+list_of-empty [] none = list_of-nil
+list_of-empty (x ∷ xs) none = absurd (omega arith)

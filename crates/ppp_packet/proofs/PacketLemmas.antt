@@ -3,6 +3,7 @@ use Rattle.std.proofs.Common.{◌≡◌, ℕ, zero, suc, ◌+◌, ◌-◌, ◌*�
 use Rattle.std.specs.Prelude.{Option, Some, None, ◌||◌, nat_lt, if◌then◌else◌}
 use Rattle.std.proofs.lemmas.List.{take_at, take-append-drop, length-take-le}
 use Rattle.std.proofs.lemmas.Bool.{le-ltb, lt-ltb, ltb-false}
+use Rattle.byteorder.specs.Endian.{big_number}
 use Rattle.ppp_packet.specs.Packet.{two_octets, packet_octets, IsPacket, RawPacket, raw_packet_of}
 
 or_true : (a : Bool) → (a || true) ≡ true
@@ -44,3 +45,17 @@ IsPacket-whole code id high low size rest is octet least room =
     let up : size / 256 ≡ high = omega arith in
     let down : size % 256 ≡ low = omega arith in
     (drop (size - 4) rest, rw (whole, up, down, take-append-drop (size - 4) rest) refl)
+
+-- the packet as a reader of the octets finds it: the header apart from the data
+pub IsPacket-split : (bytes header back : List ℕ) (size : ℕ) → 4 ≤ length bytes → header ≡ take 4 bytes → back ≡ drop 4 bytes →
+    size ≡ big_number 2 (take (length header - 2) (drop 2 header)) →
+    get_or bytes 3 0 < 256 → 4 ≤ size → size ≤ length bytes →
+    IsPacket (get_or header 0 0) (get_or header 1 0) (take (size - 4) back) bytes
+IsPacket-split [] header back size whole front behind is octet least room = absurd (omega arith)
+IsPacket-split (a ∷ []) header back size whole front behind is octet least room = absurd (omega arith)
+IsPacket-split (a ∷ b ∷ []) header back size whole front behind is octet least room = absurd (omega arith)
+IsPacket-split (a ∷ b ∷ c ∷ []) header back size whole front behind is octet least room = absurd (omega arith)
+IsPacket-split (a ∷ b ∷ c ∷ d ∷ rest) header back size whole front behind is octet least room =
+    let is_number : size ≡ big_number 2 (take (length (a ∷ b ∷ c ∷ d ∷ []) - 2) (drop 2 (a ∷ b ∷ c ∷ d ∷ []))) = rw front at is in
+    let is_size : size ≡ c * 256 + d = omega (arith, is_number) in
+    rw (front, behind) (IsPacket-whole a b c d size rest is_size octet least (omega arith))

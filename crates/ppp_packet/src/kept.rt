@@ -75,7 +75,7 @@ impl OptList {
         ensures none { IsNone result ↔ All (λ option. option.kind ≢ kind) self.now }
     {
         let mut left = self.options();
-        while let Some((option, behind)) = left.split_first() {
+        'options: while let Some((option, behind)) = left.split_first() {
             if option.kind == kind {
                 return Some(option.body);
             }
