@@ -118,7 +118,9 @@ impl OptList {
         ensures { result ≡ self.now }
     {
         let mut octets = ArrayVec::new();
-        octets.try_extend_from_slice(self.octets.as_slice()).unwrap();
+        octets
+            .try_extend_from_slice(self.octets.as_slice())
+            .unwrap();
         OptList { octets }
     }
 }

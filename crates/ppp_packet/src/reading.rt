@@ -139,7 +139,13 @@ fn first_option(octets: &[u8]) -> Option<(OptRef<'_>, &[u8])>
     }
     let (option, behind) = octets.split_at(size);
     let (header, body) = option.split_at(OPTION_HEADER);
-    Some((OptRef { kind: header[0], body }, behind))
+    Some((
+        OptRef {
+            kind: header[0],
+            body,
+        },
+        behind,
+    ))
 }
 
 /// The first option of a list in octets, and the octets of the others.

@@ -1,4 +1,4 @@
-use Rattle.std.proofs.Common.{◌≡◌, ◌+◌, ◌≤◌, length}
+use Rattle.std.proofs.Common.{◌≡◌, ◌+◌, length}
 use Rattle.ppp_packet.specs.Options.{HoldsOptions, list_of}
 use Rattle.ppp_packet.proofs.reading.count_in.Given as goal
 
