@@ -1,6 +1,8 @@
 pub mod Automaton
 pub mod Duet
+pub mod Entries
 pub mod Judging
+pub mod Kept
 pub mod Lawful
 pub mod Packets
 pub mod Rows

@@ -4,12 +4,14 @@
 
 mod cell;
 mod layer_signal;
+mod outbox;
 mod row;
 mod state;
 mod table;
 mod verdict;
 
 pub use layer_signal::LayerSignal;
+pub use outbox::{EntryRef, Memory, Outbox};
 pub use row::{Action, Input};
 pub use state::{AutoEvent, AutoState};
 pub use table::OptionTable;
