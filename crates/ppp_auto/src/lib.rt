@@ -2,6 +2,7 @@
 //! `Outbox::new` takes memory.
 #![tactic(auto)]
 
+mod answer;
 mod cell;
 mod layer_signal;
 mod outbox;
