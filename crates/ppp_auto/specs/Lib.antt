@@ -6,6 +6,7 @@ pub mod Judging
 pub mod Kept
 pub mod Lawful
 pub mod Packets
+pub mod Putting
 pub mod Rows
 pub mod Table
 pub mod TwoEnds
