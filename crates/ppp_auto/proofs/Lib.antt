@@ -1,2 +1,3 @@
+pub mod JudgingLemmas
 pub mod OutboxLemmas
 pub mod RowLemmas

@@ -166,7 +166,8 @@ fn is_rejected<T: OptionTable>(
     word: u64,
     seen: &[bool; 256],
 ) -> bool
-    ensures { result ≡ slice_index_or seen.now option.entry.kind false || is_refused (option_in option.entry) ((T.table table.now).judge own.now (option_in option.entry) word) }
+    ensures kind { option.entry.kind < 256 }
+    ensures test { result ≡ slice_index_or seen.now option.entry.kind false || is_refused (option_in option.entry) ((T.table table.now).judge own.now (option_in option.entry) word) }
 {
     seen[usize::from(option.kind)] || is_refused(&table.judge(own, option, word), &option)
 }
@@ -206,8 +207,7 @@ fn put_if(octets: &mut Rest, wanted: bool, option: OptRef<'_>) -> bool
 
 /// Puts what is suggested behind others, where something is.
 fn put_better(octets: &mut Rest, verdict: &Verdict)
-    requires room { length octets.old.items + length (written (better_of verdict.now)) ≤ 1496 }
-    requires short { length (written (better_of verdict.now)) ≤ 255 }
+    requires { length octets.old.items + length (written (better_of verdict.now)) ≤ 1496 }
     ensures { octets.new.items ≡ octets.old.items ++ written (better_of verdict.now) }
 {
     if let Verdict::Bad(better) = verdict {
