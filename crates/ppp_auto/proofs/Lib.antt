@@ -1,3 +1,4 @@
+pub mod ReplyLemmas
 pub mod JudgingLemmas
 pub mod OutboxLemmas
 pub mod RowLemmas
