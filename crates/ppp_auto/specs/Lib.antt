@@ -1,6 +1,7 @@
 pub mod Answers
 pub mod Automaton
 pub mod Duet
+pub mod Ends
 pub mod Entries
 pub mod Judging
 pub mod Kept

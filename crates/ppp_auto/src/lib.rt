@@ -4,6 +4,7 @@
 
 mod answer;
 mod cell;
+mod end;
 mod judging;
 mod layer_signal;
 mod outbox;
