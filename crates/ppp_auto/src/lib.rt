@@ -2,14 +2,19 @@
 //! `Outbox::new` takes memory.
 #![tactic(auto)]
 
+mod answer;
 mod cell;
+mod end;
+mod judging;
 mod layer_signal;
+mod outbox;
 mod row;
 mod state;
 mod table;
 mod verdict;
 
 pub use layer_signal::LayerSignal;
+pub use outbox::{EntryRef, Memory, Outbox};
 pub use row::{Action, Input};
 pub use state::{AutoEvent, AutoState};
 pub use table::OptionTable;
