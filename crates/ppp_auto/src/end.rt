@@ -82,9 +82,13 @@ pub(crate) fn do_row<T: OptionTable>(
 )
     requires empty { out.old ≡ [] }
     requires cap { IsCap end.old.cap }
+    requires own { T.sendable table.now end.old.own }
+    requires adapted { T.sendable table.now incoming.now.adapted }
     requires short { incoming.now.input ≡ Input.RequestGood → length (written (unwrap_or incoming.now.theirs [])) ≤ 128 }
     ensures auto { auto_of end.new ≡ (does_row (T.table table.now) (auto_of end.old) incoming.now.input (taken_in incoming.now) word).auto }
     ensures out { out.new ≡ entries_of (does_row (T.table table.now) (auto_of end.old) incoming.now.input (taken_in incoming.now) word) }
+    ensures cap { end.new.cap ≡ end.old.cap }
+    ensures sendable { T.sendable table.now end.new.own }
 {
     let cell = Cell::of(incoming.input, end.state);
     let next = end_after(table, end, &cell, incoming, word);
@@ -102,8 +106,12 @@ fn end_after<T: OptionTable>(
     incoming: &Incoming<'_>,
     word: u64,
 ) -> End
-    requires { acks (row_in cell.now).actions ≡ true → length (written (unwrap_or incoming.now.theirs [])) ≤ 128 }
-    ensures { auto_of result ≡ after (T.table table.now) (auto_of end.now) incoming.now.input (row_in cell.now) (taken_in incoming.now) word }
+    requires own { T.sendable table.now end.now.own }
+    requires adapted { T.sendable table.now incoming.now.adapted }
+    requires short { acks (row_in cell.now).actions ≡ true → length (written (unwrap_or incoming.now.theirs [])) ≤ 128 }
+    ensures cap { result.cap ≡ end.now.cap }
+    ensures sendable { T.sendable table.now result.own }
+    ensures auto { auto_of result ≡ after (T.table table.now) (auto_of end.now) incoming.now.input (row_in cell.now) (taken_in incoming.now) word }
 {
     End {
         state: cell.next,
@@ -176,15 +184,26 @@ fn own_after<T: OptionTable>(
     incoming: &Incoming<'_>,
     word: u64,
 ) -> OptList
-    ensures { result ≡ (if asks (row_in cell.now).actions then (if begins_anew end.now.state then (T.table table.now).initial word else incoming.now.adapted) else end.now.own) }
+    requires own { T.sendable table.now end.now.own }
+    requires adapted { T.sendable table.now incoming.now.adapted }
+    ensures sendable { T.sendable table.now result }
+    ensures value { result ≡ (if asks (row_in cell.now).actions then (if begins_anew end.now.state then (T.table table.now).initial word else incoming.now.adapted) else end.now.own) }
 {
     if !cell.asks() {
         end.own.copied()
     } else if begins_anew(end.state) {
-        table.initial(word)
+        first_list(table, word)
     } else {
         incoming.adapted.copied()
     }
+}
+
+/// The list that is asked for first.
+pub(crate) fn first_list<T: OptionTable>(table: &T, word: u64) -> OptList
+    ensures value { result ≡ (T.table table.now).initial word }
+    ensures sendable { T.sendable table.now result }
+{
+    table.initial(word)
 }
 
 /// Whether a request that is sent begins a negotiation.

@@ -8,6 +8,7 @@ mod end;
 mod judging;
 mod layer_signal;
 mod outbox;
+mod receive;
 mod row;
 mod state;
 mod table;
