@@ -1,3 +1,4 @@
+pub mod ListLemmas
 pub mod EndLemmas
 pub mod ReplyLemmas
 pub mod JudgingLemmas

@@ -6,7 +6,7 @@ ghost use Rattle.ppp_packet.specs.Packet.{packet_octets};
 ghost use Rattle.ppp_packet.specs.Readings.{raw_packet, option_in};
 ghost use Rattle.ppp_auto.specs.Automaton.{acts_on, code_reject_input, command, does_row, echo_answer, entries_of, entry_of, extended_taken, four_octets, input_of, is_ack_of, is_extended_code, is_idle, is_nak_of, is_reject_of, judging, last_id, rejected_protocol, take_in, take_octets, take_read, taken_as, tells_rejected};
 ghost use Rattle.ppp_auto.specs.Ends.{auto_of, acts_as, IsCap};
-ghost use Rattle.ppp_auto.specs.Judging.{is_sublist, same_option};
+ghost use Rattle.ppp_auto.specs.Judging.{is_sublist, same_list, same_option};
 ghost use Rattle.ppp_auto.specs.Packets.{Request, Ack, Nak, Reject, Other, packet_with};
 ghost use Rattle.ppp_auto.specs.Views.{after_one};
 
@@ -292,7 +292,14 @@ fn last_id(end: &End) -> u8
 fn is_ack_of(end: &End, id: u8, options: &Options<'_>) -> bool
     ensures { result ≡ is_ack_of (auto_of end.now) id options.now }
 {
-    is_idle(end.state) || (id == last_id(end) && end.own.same_as(options))
+    is_idle(end.state) || (id == last_id(end) && is_same_list(options, &end.own))
+}
+
+/// Whether a list is the own list.
+fn is_same_list(options: &Options<'_>, own: &OptList) -> bool
+    ensures { result ≡ same_list options.now own.now }
+{
+    own.same_as(options)
 }
 
 /// Whether a Configure-Nak answers the last request.
