@@ -27,3 +27,8 @@ pub record IsCap (cap : ℕ) : Type 0 where
 -- what a packet comes to that is taken so
 abbrev pub acts_as : Table → Auto → Taken → ℕ → Acted
 acts_as t a taken word = acts_on t a taken taken.input word
+
+-- what an automaton keeps: its own list may be sent
+pub record Keeps (sendable : List ConfigOption → Type 0) (e : End) : Type 0 where
+  pub sends : sendable e.own
+  pub cap : IsCap e.cap

@@ -4,13 +4,17 @@ ghost use Rattle.std.specs.Prelude.{◌≡◌, ◌+◌, ◌-◌, ◌%◌, ◌<�
 ghost use Rattle.ppp_packet.specs.Options.{written};
 ghost use Rattle.ppp_packet.specs.Packet.{packet_octets};
 ghost use Rattle.ppp_packet.specs.Readings.{raw_packet, option_in};
-ghost use Rattle.ppp_auto.specs.Automaton.{acts_on, code_reject_input, command, does_row, echo_answer, entries_of, entry_of, extended_taken, four_octets, input_of, is_ack_of, is_extended_code, is_idle, is_nak_of, is_reject_of, judging, last_id, rejected_protocol, take_in, take_octets, take_read, taken_as, tells_rejected};
+ghost use Rattle.ppp_auto.specs.Automaton.{acts_on, code_reject_input, command, does_row, echo_answer, entries_of, entry_of, extended_taken, four_octets, input_of, is_ack_of, is_extended_code, is_idle, is_nak_of, is_reject_of, judging, rejected_protocol, take_in, take_octets, take_read, taken_as, tells_rejected};
 ghost use Rattle.ppp_auto.specs.Ends.{auto_of, acts_as, IsCap};
 ghost use Rattle.ppp_auto.specs.Judging.{is_sublist, same_list, same_option};
 ghost use Rattle.ppp_auto.specs.Packets.{Request, Ack, Nak, Reject, Other, packet_with};
 ghost use Rattle.ppp_auto.specs.Views.{after_one};
 
 use crate::answer::{Answer, Rest};
+use crate::code::{
+    CODE_REJECT, CONFIGURE_ACK, CONFIGURE_NAK, CONFIGURE_REJECT, CONFIGURE_REQUEST,
+    DISCARD_REQUEST, ECHO_REQUEST, PROTOCOL_REJECT, TERMINATE_ACK, TERMINATE_REQUEST,
+};
 use crate::end::{End, Incoming, do_row, first_list};
 use crate::judging::answer_to;
 use crate::layer_signal::LayerSignal;
@@ -108,22 +112,22 @@ fn take_read<T: OptionTable>(
     ensures sendable { T.sendable table.now end.new.own }
 {
     match packet.code {
-        1 => {
+        CONFIGURE_REQUEST => {
             if let Some(options) = read_options(packet.rest) {
                 take_request(table, end, packet.id, &options, word, out);
             }
         }
-        2 => {
+        CONFIGURE_ACK => {
             if let Some(options) = read_options(packet.rest) {
                 take_ack(table, end, packet.id, &options, word, out);
             }
         }
-        3 => {
+        CONFIGURE_NAK => {
             if let Some(options) = read_options(packet.rest) {
                 take_nak(table, end, packet.id, &options, word, out);
             }
         }
-        4 => {
+        CONFIGURE_REJECT => {
             if let Some(options) = read_options(packet.rest) {
                 take_reject(table, end, packet.id, &options, word, out);
             }
@@ -281,18 +285,11 @@ fn is_idle(state: AutoState) -> bool
     matches!(state, AutoState::Closed | AutoState::Stopped)
 }
 
-/// The Identifier of the last Configure-Request.
-fn last_id(end: &End) -> u8
-    ensures { result ≡ last_id (auto_of end.now) }
-{
-    end.next_id.wrapping_add(255)
-}
-
 /// Whether a Configure-Ack repeats the last request.
 fn is_ack_of(end: &End, id: u8, options: &Options<'_>) -> bool
     ensures { result ≡ is_ack_of (auto_of end.now) id options.now }
 {
-    is_idle(end.state) || (id == last_id(end) && is_same_list(options, &end.own))
+    is_idle(end.state) || (id == end.last_id() && is_same_list(options, &end.own))
 }
 
 /// Whether a list is the own list.
@@ -306,7 +303,7 @@ fn is_same_list(options: &Options<'_>, own: &OptList) -> bool
 fn is_nak_of(end: &End, id: u8, options: &Options<'_>) -> bool
     ensures { result ≡ is_nak_of (auto_of end.now) id options.now }
 {
-    !options.is_empty() && (is_idle(end.state) || id == last_id(end))
+    !options.is_empty() && (is_idle(end.state) || id == end.last_id())
 }
 
 /// Whether a Configure-Reject answers the last request.
@@ -315,7 +312,7 @@ fn is_reject_of(end: &End, id: u8, options: &Options<'_>) -> bool
 {
     !options.is_empty()
         && (is_idle(end.state)
-            || (id == last_id(end) && is_sublist(options, &end.own.options())))
+            || (id == end.last_id() && is_sublist(options, &end.own.options())))
 }
 
 /// Whether the first list is a sublist of the second, in order.
@@ -367,9 +364,15 @@ fn take_other<T: OptionTable>(
     ensures sendable { T.sendable table.now end.new.own }
 {
     match packet.code {
-        5 => take_plain(table, end, Some(Input::TerminateRequestCame), packet.id, word, out),
-        6 => take_plain(table, end, Some(Input::TerminateAckCame), packet.id, word, out),
-        7 => {
+        TERMINATE_REQUEST => {
+            let input = Some(Input::TerminateRequestCame);
+            take_plain(table, end, input, packet.id, word, out);
+        }
+        TERMINATE_ACK => {
+            let input = Some(Input::TerminateAckCame);
+            take_plain(table, end, input, packet.id, word, out);
+        }
+        CODE_REJECT => {
             let input = code_reject_input(packet.rest);
             take_plain(table, end, input, packet.id, word, out);
         }
@@ -409,7 +412,7 @@ fn code_reject_input(rest: &[u8]) -> Option<Input>
 {
     match rest {
         [] => None,
-        [1..=7, ..] => Some(Input::RejectedBadly),
+        [CONFIGURE_REQUEST..=CODE_REJECT, ..] => Some(Input::RejectedBadly),
         _ => Some(Input::RejectedWell),
     }
 }
@@ -418,7 +421,7 @@ fn code_reject_input(rest: &[u8]) -> Option<Input>
 fn is_extended_code(code: u8) -> bool
     ensures { result ≡ is_extended_code code }
 {
-    8 <= code && code <= 11
+    PROTOCOL_REJECT <= code && code <= DISCARD_REQUEST
 }
 
 /// Takes in a packet with a code that isn't known.
@@ -459,7 +462,7 @@ fn take_extended<T: OptionTable>(
     ensures cap { end.new.cap ≡ end.old.cap }
     ensures sendable { T.sendable table.now end.new.own }
 {
-    if packet.code == 8 {
+    if packet.code == PROTOCOL_REJECT {
         tell_rejected(end.state, packet.rest, out);
     } else if MAGIC <= packet.rest.len() {
         let mut incoming = Incoming::plain(end, Input::EchoCame, packet.id);
@@ -484,7 +487,7 @@ fn echo_answer<T: OptionTable>(table: &T, end: &End, packet: PacketRef<'_>) -> O
     requires magic { 4 ≤ length packet.rest.now }
     ensures { result ≡ echo_answer (T.table table.now) (auto_of end.now) packet.entry.code packet.entry.id packet.entry.rest.now }
 {
-    if packet.code != 9 {
+    if packet.code != ECHO_REQUEST {
         return None;
     }
     let magic = table.magic(&end.own);
