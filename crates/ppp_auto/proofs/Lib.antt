@@ -2,10 +2,12 @@ pub mod Acceptance
 pub mod Agreement
 pub mod Arithmetic
 pub mod Cells
+pub mod EndLemmas
 pub mod Events
 pub mod Invariant
 pub mod JudgingLemmas
 pub mod Kept
+pub mod ListLemmas
 pub mod Moved
 pub mod Narrow
 pub mod OutboxLemmas

@@ -5,7 +5,8 @@ use Rattle.ppp_packet.specs.ConfigOption.{ConfigOption}
 use Rattle.ppp_auto.specs.declared.end.End.{End}
 use Rattle.ppp_auto.specs.declared.end.Incoming.{Incoming}
 use Rattle.ppp_auto.specs.declared.row.Action.{Action}
-use Rattle.ppp_auto.specs.Automaton.{Auto, Taken, Entry, effects, entry_of}
+use Rattle.ppp_auto.specs.Automaton.{Auto, Taken, Acted, Entry, acts_on, effects, entry_of}
+use Rattle.ppp_auto.specs.Table.{Table}
 
 abbrev pub auto_of : End → Auto
 auto_of e = record { state = e.state; restart = e.restart; naks = e.naks; next_id = e.next_id; second = e.second; own = e.own; peer = e.peer; cap = e.cap }
@@ -22,3 +23,12 @@ entries_at old new taken action = map entry_of (effects old new taken (option_to
 pub record IsCap (cap : ℕ) : Type 0 where
   pub low : 128 ≤ cap
   pub high : cap ≤ 1500
+
+-- what a packet comes to that is taken so
+abbrev pub acts_as : Table → Auto → Taken → ℕ → Acted
+acts_as t a taken word = acts_on t a taken taken.input word
+
+-- what an automaton keeps: its own list may be sent
+pub record Keeps (sendable : List ConfigOption → Type 0) (e : End) : Type 0 where
+  pub sends : sendable e.own
+  pub cap : IsCap e.cap

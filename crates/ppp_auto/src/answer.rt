@@ -5,6 +5,7 @@ ghost use Rattle.ppp_packet.specs.Options.{HoldsOptions, list_of};
 ghost use Rattle.ppp_auto.specs.Packets.{Ack, Nak, Reject, Other, octets_of};
 ghost use Rattle.ppp_auto.specs.Automaton.{is_nak, Send};
 
+use crate::code::{CONFIGURE_ACK, CONFIGURE_NAK, CONFIGURE_REJECT, ECHO_REPLY};
 use crate::outbox::Outbox;
 use arrayvec::ArrayVec;
 use std::marker::Model;
@@ -42,7 +43,7 @@ impl Answer {
         ensures { result ≡ Ack id (list_of options.items) }
     {
         Answer {
-            code: 2,
+            code: CONFIGURE_ACK,
             id,
             rest: options,
         }
@@ -54,7 +55,7 @@ impl Answer {
         ensures { result ≡ Nak id (list_of options.items) }
     {
         Answer {
-            code: 3,
+            code: CONFIGURE_NAK,
             id,
             rest: options,
         }
@@ -66,7 +67,7 @@ impl Answer {
         ensures { result ≡ Reject id (list_of options.items) }
     {
         Answer {
-            code: 4,
+            code: CONFIGURE_REJECT,
             id,
             rest: options,
         }
@@ -77,7 +78,7 @@ impl Answer {
         ensures { result ≡ Other 10 id octets.items }
     {
         Answer {
-            code: 10,
+            code: ECHO_REPLY,
             id,
             rest: octets,
         }
@@ -87,7 +88,7 @@ impl Answer {
     pub(crate) fn is_nak(&self) -> bool
         ensures { result ≡ is_nak (Some self.now) }
     {
-        self.code == 3
+        self.code == CONFIGURE_NAK
     }
 
     /// Puts the packet at the end of an outbox.

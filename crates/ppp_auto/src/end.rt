@@ -3,7 +3,7 @@
 ghost use Rattle.std.specs.Prelude.{◌≡◌, ◌+◌, ◌-◌, ◌%◌, ◌<◌, ◌≤◌, ◌++◌, [], length, map, min, if◌then◌else◌, take, true, Some};
 ghost use Rattle.std.specs.Option.{unwrap_or};
 ghost use Rattle.ppp_packet.specs.Options.{written};
-ghost use Rattle.ppp_auto.specs.Automaton.{after, answering, begins_anew, counts_anew, does_row, entries_of, entry_of, is_nak, naks_after, taken_as};
+ghost use Rattle.ppp_auto.specs.Automaton.{after, answering, begins_anew, counts_anew, does_row, entries_of, entry_of, is_nak, last_id, naks_after, taken_as};
 ghost use Rattle.ppp_auto.specs.Ends.{auto_of, taken_in, entries_at, IsCap};
 ghost use Rattle.ppp_auto.specs.Judging.{max_failure};
 ghost use Rattle.ppp_auto.specs.Rows.{acks, asks};
@@ -11,6 +11,7 @@ ghost use Rattle.ppp_auto.specs.Views.{row_in};
 
 use crate::answer::Answer;
 use crate::cell::Cell;
+use crate::code::{CODE_REJECT, CONFIGURE_REQUEST, TERMINATE_ACK, TERMINATE_REQUEST};
 use crate::judging::MAX_FAILURE;
 use crate::layer_signal::LayerSignal;
 use crate::outbox::Outbox;
@@ -37,6 +38,15 @@ pub(crate) struct End {
     pub(crate) peer: OptList,
     /// The octets that a Code-Reject or Echo-Reply may have.
     pub(crate) cap: u16,
+}
+
+impl End {
+    /// The Identifier of the last Configure-Request.
+    pub(crate) fn last_id(&self) -> u8
+        ensures { result ≡ last_id (auto_of self.now) }
+    {
+        self.next_id.wrapping_sub(1)
+    }
 }
 
 /// What comes in, as an event of the table.
@@ -82,9 +92,13 @@ pub(crate) fn do_row<T: OptionTable>(
 )
     requires empty { out.old ≡ [] }
     requires cap { IsCap end.old.cap }
+    requires own { T.sendable table.now end.old.own }
+    requires adapted { T.sendable table.now incoming.now.adapted }
     requires short { incoming.now.input ≡ Input.RequestGood → length (written (unwrap_or incoming.now.theirs [])) ≤ 128 }
     ensures auto { auto_of end.new ≡ (does_row (T.table table.now) (auto_of end.old) incoming.now.input (taken_in incoming.now) word).auto }
     ensures out { out.new ≡ entries_of (does_row (T.table table.now) (auto_of end.old) incoming.now.input (taken_in incoming.now) word) }
+    ensures cap { end.new.cap ≡ end.old.cap }
+    ensures sendable { T.sendable table.now end.new.own }
 {
     let cell = Cell::of(incoming.input, end.state);
     let next = end_after(table, end, &cell, incoming, word);
@@ -102,8 +116,12 @@ fn end_after<T: OptionTable>(
     incoming: &Incoming<'_>,
     word: u64,
 ) -> End
-    requires { acks (row_in cell.now).actions ≡ true → length (written (unwrap_or incoming.now.theirs [])) ≤ 128 }
-    ensures { auto_of result ≡ after (T.table table.now) (auto_of end.now) incoming.now.input (row_in cell.now) (taken_in incoming.now) word }
+    requires own { T.sendable table.now end.now.own }
+    requires adapted { T.sendable table.now incoming.now.adapted }
+    requires short { acks (row_in cell.now).actions ≡ true → length (written (unwrap_or incoming.now.theirs [])) ≤ 128 }
+    ensures cap { result.cap ≡ end.now.cap }
+    ensures sendable { T.sendable table.now result.own }
+    ensures auto { auto_of result ≡ after (T.table table.now) (auto_of end.now) incoming.now.input (row_in cell.now) (taken_in incoming.now) word }
 {
     End {
         state: cell.next,
@@ -176,15 +194,26 @@ fn own_after<T: OptionTable>(
     incoming: &Incoming<'_>,
     word: u64,
 ) -> OptList
-    ensures { result ≡ (if asks (row_in cell.now).actions then (if begins_anew end.now.state then (T.table table.now).initial word else incoming.now.adapted) else end.now.own) }
+    requires own { T.sendable table.now end.now.own }
+    requires adapted { T.sendable table.now incoming.now.adapted }
+    ensures sendable { T.sendable table.now result }
+    ensures value { result ≡ (if asks (row_in cell.now).actions then (if begins_anew end.now.state then (T.table table.now).initial word else incoming.now.adapted) else end.now.own) }
 {
     if !cell.asks() {
         end.own.copied()
     } else if begins_anew(end.state) {
-        table.initial(word)
+        first_list(table, word)
     } else {
         incoming.adapted.copied()
     }
+}
+
+/// The list that is asked for first.
+pub(crate) fn first_list<T: OptionTable>(table: &T, word: u64) -> OptList
+    ensures value { result ≡ (T.table table.now).initial word }
+    ensures sendable { T.sendable table.now result }
+{
+    table.initial(word)
 }
 
 /// Whether a request that is sent begins a negotiation.
@@ -234,14 +263,16 @@ fn emit(
         Action::ThisFinished => out.tell(LayerSignal::Finished),
         Action::InitRestart | Action::ZeroRestart => {}
         Action::SendRequest | Action::RepeatRequest => {
-            out.send(1, new.next_id.wrapping_add(255), new.own.octets());
+            out.send(CONFIGURE_REQUEST, new.last_id(), new.own.octets());
         }
         Action::SendAck | Action::SendNak | Action::SendEchoReply => {
             send_answer(out, &incoming.answer);
         }
-        Action::SendTerminate => out.send(5, old.second, &[]),
-        Action::SendTerminateAck => out.send(6, incoming.id, &[]),
-        Action::SendCodeReject => out.send(7, old.second, cut(incoming.whole, old.cap)),
+        Action::SendTerminate => out.send(TERMINATE_REQUEST, old.second, &[]),
+        Action::SendTerminateAck => out.send(TERMINATE_ACK, incoming.id, &[]),
+        Action::SendCodeReject => {
+            out.send(CODE_REJECT, old.second, cut(incoming.whole, old.cap));
+        }
     }
 }
 
@@ -257,7 +288,7 @@ fn send_answer(out: &mut Outbox, answer: &Option<Answer>)
 }
 
 /// As much of the octets as a packet of at most `cap` octets can carry behind its header.
-pub(crate) fn cut(octets: &[u8], cap: u16) -> &[u8]
+fn cut(octets: &[u8], cap: u16) -> &[u8]
     requires { IsCap cap }
     ensures octets { result.now ≡ take (cap - 4) octets.now }
     ensures size { length result.now ≤ 1496 }

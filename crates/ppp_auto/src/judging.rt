@@ -18,6 +18,7 @@ use ppp_packet::{OptList, OptRef, Options};
 pub(crate) const MAX_FAILURE: u8 = 5;
 
 /// What answers a Configure-Request, and the event that it is.
+#[derive(Drop)]
 pub(crate) struct Reply {
     pub(crate) input: Input,
     pub(crate) answer: Answer,
