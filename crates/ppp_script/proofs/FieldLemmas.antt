@@ -1,12 +1,11 @@
 -- Facts on the fields of a line.
-use Rattle.std.proofs.Common.{◌≡◌, ℕ, zero, suc, ◌+◌, ◌<◌, ◌≤◌, Bool, true, false, cond, List, [], ◌∷◌, length, take, drop, refl, sym, ◌∙◌, ap, arith, add-one}
-use Rattle.std.specs.Prelude.{◌==◌, not, Result, Ok, Err}
+use Rattle.std.proofs.Common.{◌≡◌, ℕ, suc, ◌+◌, ◌≤◌, Bool, true, false, cond, List, [], ◌∷◌, length, refl, ap, arith}
+use Rattle.std.specs.Prelude.{◌==◌, not, Err}
 use Rattle.std.specs.List.{slice_split, position_or_len, onto_first}
 use Rattle.std.proofs.lemmas.List.Splits.{slice_split_first}
-use Rattle.ppp_script.specs.declared.fault.LineWhy.{LineWhy}
 use Rattle.ppp_script.specs.declared.fault.LineWhy.TheVariants as why
-use Rattle.ppp_script.specs.Lines.{IsSplit}
-use Rattle.ppp_script.specs.Fields.{fields_of, no_more, next_field}
+use Rattle.ppp_script.specs.Fields.{fields_of, no_more}
+use Rattle.ppp_script.specs.Progress.{IsSplit}
 
 one_part_step : {X : Type 0} (p : X → Bool) (x : X) (xs : List X) (passes : Bool) → p x ≡ passes → suc (length xs) ≤ cond (not passes) (1 + position_or_len p xs) 0 →
     (length xs ≤ position_or_len p xs → slice_split p xs ≡ xs ∷ []) → cond passes ([] ∷ slice_split p xs) (onto_first x (slice_split p xs)) ≡ (x ∷ xs) ∷ []

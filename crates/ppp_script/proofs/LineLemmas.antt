@@ -1,11 +1,12 @@
 -- Facts on lines, and on the parts of an input.
-use Rattle.std.proofs.Common.{◌≡◌, ◌≢◌, ◌⊎◌, inl, inr, ℕ, zero, suc, ◌+◌, ◌-◌, ◌<◌, ◌≤◌, Bool, true, false, cond, List, [], ◌∷◌, ◌++◌, length, take, drop, get_or, refl, sym, ◌∙◌, ap, arith, add-one, append_assoc, length-append, append-nil, subst, take_all, length-drop, drop-drop}
-use Rattle.std.specs.Prelude.{Option, Some, None, position, ◌==◌, ◌&&◌, ◌||◌, nat_lt, not, bytes_eq, codes}
+use Rattle.std.proofs.Common.{◌≡◌, ◌≢◌, inl, inr, ℕ, suc, ◌+◌, ◌-◌, ◌<◌, ◌≤◌, Bool, true, false, cond, List, [], ◌∷◌, ◌++◌, length, take, drop, get_or, refl, sym, ◌∙◌, ap, arith, append_assoc, length-append, append-nil, subst, take_all, length-drop, drop-drop}
+use Rattle.std.specs.Prelude.{Some, None, position, ◌==◌, ◌&&◌, nat_lt, not, bytes_eq, codes}
 use Rattle.std.specs.List.{position_or_len, prefix_len, onto_first, concat, before_first, after_first}
 use Rattle.std.specs.Str.Lines.{StripsCarriageReturn}
 use Rattle.std.proofs.lemmas.Bool.{eqb-true, ne_eqb, ltb-true, ltb-false}
 use Rattle.std.proofs.lemmas.List.{take_at, drop_at}
-use Rattle.ppp_script.specs.Lines.{pieces_of, ends_here, without_end, is_parting, settings_in, script_in, FirstLine, IsSplit}
+use Rattle.ppp_script.specs.Lines.{pieces_of, ends_here, without_end, is_parting, settings_in, script_in}
+use Rattle.ppp_script.specs.Progress.{FirstLine, IsSplit}
 
 -- what `position` answers
 some_at : (at size n : ℕ) (below : Bool) → nat_lt at size ≡ below → cond below (Some at) None ≡ Some n → (at ≡ n) × (n < size)
@@ -198,10 +199,11 @@ Passed-parting text front rest line behind passed f is =
     let set : settings_in rest ≡ [] = ap (λ ps. concat (before_first is_parting ps)) f.pieces ∙ settings_end f.piece (pieces_of behind) here in
     let scr : script_in rest ≡ behind = ap (λ ps. concat (after_first is_parting ps)) f.pieces ∙ script_end f.piece (pieces_of behind) here ∙ concat-pieces_of behind in
     (passed.settings ∙ ap (λ r. front ++ r) set ∙ append-nil front, passed.script ∙ scr) where
-  settings_end : (piece : List ℕ) (ps : List (List ℕ)) → is_parting piece ≡ true → concat (before_first is_parting (piece ∷ ps)) ≡ []
-  settings_end piece ps is = rw is refl
-  script_end : (piece : List ℕ) (ps : List (List ℕ)) → is_parting piece ≡ true → concat (after_first is_parting (piece ∷ ps)) ≡ concat ps
-  script_end piece ps is = rw is refl
+      settings_end : (piece : List ℕ) (ps : List (List ℕ)) → is_parting piece ≡ true → concat (before_first is_parting (piece ∷ ps)) ≡ []
+      settings_end piece ps is = rw is refl
+
+      script_end : (piece : List ℕ) (ps : List (List ℕ)) → is_parting piece ≡ true → concat (after_first is_parting (piece ∷ ps)) ≡ concat ps
+      script_end piece ps is = rw is refl
 
 pub Passed-all : (text front rest : List ℕ) → Passed text front rest → length rest ≤ 0 → (settings_in text ≡ text) × (script_in text ≡ rest)
 unfolding settings_in script_in pieces_of

@@ -1,14 +1,15 @@
 -- Facts on the events of a script.
-use Rattle.std.proofs.Common.{◌≡◌, ℕ, ◌+◌, ◌≤◌, length, Bool, true, false, List, [], ◌∷◌, ◌++◌, refl, sym, ◌∙◌, ap, arith, append_assoc, append-nil, subst}
-use Rattle.std.specs.Prelude.{Result, Ok, Err}
+use Rattle.std.proofs.Common.{◌≡◌, ℕ, ◌+◌, ◌≤◌, length, take, zero, suc, true, false, List, [], ◌∷◌, ◌++◌, refl, sym, ◌∙◌, ap, arith, append_assoc, append-nil, subst}
+use Rattle.std.specs.Prelude.{Result, Ok, Err, Some, slice_get}
 use Rattle.std.proofs.lemmas.List.Sums.{sum_by-append}
 use Rattle.ppp_script.specs.declared.event.Event.{Event}
 use Rattle.ppp_script.specs.declared.fault.LineWhy.{LineWhy}
 use Rattle.ppp_script.specs.declared.fault.ScriptFault.{ScriptFault}
 use Rattle.ppp_script.specs.Events.{steps_in, steps_in_all}
-use Rattle.ppp_script.specs.Lines.{lines_of, pieces_of, without_end, FirstLine}
+use Rattle.ppp_script.specs.Lines.{lines_of, pieces_of}
 use Rattle.ppp_script.specs.Results.{◌>>=◌}
-use Rattle.ppp_script.specs.Script.{Refusal, is_no_step, step_of, events_from, events_of, script_from, IsRefusal}
+use Rattle.ppp_script.specs.Script.{Refusal, is_no_step, step_of, events_from, events_of, IsRefusal}
+use Rattle.ppp_script.specs.Progress.{FirstLine, script_from}
 
 pub script_from-remark : (links number : ℕ) (front : List Event) (line : List ℕ) (lines : List (List ℕ)) → is_no_step line ≡ true →
     script_from links front number (line ∷ lines) ≡ script_from links front (number + 1) lines
@@ -22,6 +23,9 @@ joined front event (Err refusal) = refl
 
 pub steps_in_all-push : (front : List Event) (event : Event) → steps_in_all (front ++ event ∷ []) ≡ steps_in_all front + steps_in event
 steps_in_all-push front event = omega (arith, sum_by-append steps_in front (event ∷ []))
+
+steps_in_all-cons : (first : Event) (events : List Event) → steps_in_all (first ∷ events) ≡ steps_in first + steps_in_all events
+steps_in_all-cons first events = omega (arith, sum_by-append steps_in (first ∷ []) events)
 
 pub script_from-step : (links number : ℕ) (front : List Event) (event : Event) (line : List ℕ) (lines : List (List ℕ)) → is_no_step line ≡ false →
     step_of links (steps_in_all front) line ≡ Ok event → script_from links front number (line ∷ lines) ≡ script_from links (front ++ event ∷ []) (number + 1) lines
@@ -57,3 +61,11 @@ pub IsRefusal-same : (links number : ℕ) (front : List Event) (text line behind
     script_from links front number (lines_of text) ≡ read → IsRefusal (script_from links front number (line ∷ lines_of behind)) fault → IsRefusal read fault
 IsRefusal-same links number front text line behind read fault f same refused =
     subst (λ r. IsRefusal r fault) (ap (script_from links front number) (sym (lines_of-first text line behind f)) ∙ same) refused
+
+-- of events, those up to a place and the one there have no more steps than all: what a caller that goes over a script knows of the next event
+pub steps_in_all-at : (events : List Event) (i : ℕ) (event : Event) → slice_get events i ≡ Some event → steps_in_all (take i events) + steps_in event ≤ steps_in_all events
+steps_in_all-at [] i event is = absurd (cc)
+steps_in_all-at (first ∷ events) zero event is =
+    let same : first ≡ event = cc in rw (← same) (omega (arith, steps_in_all-cons first events))
+steps_in_all-at (first ∷ events) (suc i) event is =
+    omega (arith, steps_in_all-cons first events, steps_in_all-cons first (take i events), steps_in_all-at events i event is)

@@ -1,6 +1,6 @@
 -- Lines of a text, and the two parts of an input.
-use Rattle.std.specs.Prelude.{◌≡◌, ◌<◌, ◌++◌, length, ℕ, Bool, false, ◌&&◌, ◌||◌, ◌==◌, if◌then◌else◌, List, [], ◌∷◌, map, bytes_eq, codes}
-use Rattle.std.specs.List.{concat, onto_first, before_first, after_first, position_or_len}
+use Rattle.std.specs.Prelude.{ℕ, Bool, false, ◌&&◌, ◌||◌, ◌==◌, if◌then◌else◌, List, [], ◌∷◌, map, bytes_eq, codes}
+use Rattle.std.specs.List.{concat, onto_first, before_first, after_first}
 
 -- The text cut behind each LF (10): each piece is a line with its end, which the last one may lack.
 unfoldable pub pieces_of : List ℕ → List (List ℕ)
@@ -33,17 +33,3 @@ settings_in text = concat (before_first is_parting (pieces_of text))
 -- its script: what stands behind that line, or nothing
 unfoldable pub script_in : List ℕ → List ℕ
 script_in text = concat (after_first is_parting (pieces_of text))
-
--- of a text that isn't empty, its first line, and what stands behind the end of that
-pub record FirstLine (text line behind : List ℕ) : Type 0 where
-  pub piece : List ℕ
-  pub pieces : pieces_of text ≡ piece ∷ pieces_of behind
-  pub line_is : line ≡ without_end piece
-  pub text_is : text ≡ piece ++ behind
-  pub some : 0 < length piece
-
--- a text, parted by the first octet that is this one
-pub record IsSplit (octet : ℕ) (text before behind : List ℕ) : Type 0 where
-  pub found : position_or_len (λ x. x == octet) text < length text
-  pub before_is : before ≡ before_first (λ x. x == octet) text
-  pub behind_is : behind ≡ after_first (λ x. x == octet) text

@@ -11,8 +11,3 @@ unfoldable pub number_of : List ℕ → Option ℕ
 number_of [] = None
 number_of (x ∷ []) = digits_onto 0 (x ∷ [])
 number_of (x ∷ y ∷ rest) = if x == 48 then None else digits_onto 0 (x ∷ y ∷ rest)
-
--- that number, where it isn't above this one
-abbrev pub up_to : ℕ → Option ℕ → Option ℕ
-up_to most None = None
-up_to most (Some n) = if nat_le n most then Some n else None

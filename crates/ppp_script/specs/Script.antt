@@ -1,11 +1,11 @@
 -- The events of a script.
-use Rattle.std.specs.Prelude.{◌≡◌, ℕ, suc, ◌+◌, ◌≤◌, ⊤, Bool, true, nat_le, ◌==◌, if◌then◌else◌, List, [], ◌∷◌, ◌++◌, Result, Ok, Err, All, sum_by}
+use Rattle.std.specs.Prelude.{◌≡◌, ℕ, ◌+◌, ⊤, Bool, true, nat_le, ◌==◌, if◌then◌else◌, List, [], ◌∷◌, Result, Ok, Err}
 use Rattle.ppp_script.specs.declared.event.Event.{Event}
 use Rattle.ppp_script.specs.declared.fault.LineWhy.{LineWhy}
 use Rattle.ppp_script.specs.declared.fault.LineWhy.TheVariants as why
 use Rattle.ppp_script.specs.declared.fault.ScriptFault.{ScriptFault}
 use Rattle.ppp_script.specs.declared.fault.ScriptFault.TheVariants.{Memory, Refused}
-use Rattle.ppp_script.specs.Events.{steps_in, steps_in_all}
+use Rattle.ppp_script.specs.Events.{steps_in}
 use Rattle.ppp_script.specs.Lines.{lines_of}
 use Rattle.ppp_script.specs.Reading.{event_of}
 use Rattle.ppp_script.specs.Results.{◌>>=◌}
@@ -30,13 +30,14 @@ step_of links steps line = do
   event ← event_of links line
   if nat_le (steps + steps_in event) 100000 then Ok event else Err why.Steps
 
--- the events of these lines, of which the first has this number, behind this many steps
+-- the events of these lines, of which the first has this number, behind that many steps
 unfoldable pub events_from : ℕ → ℕ → ℕ → List (List ℕ) → Result (List Event) Refusal
 events_from links number steps [] = Ok []
 events_from links number steps (line ∷ lines) =
-    if is_no_step line
-    then events_from links (number + 1) steps lines
-    else (at_line number (step_of links steps line) >>= (λ event. events_from links (number + 1) (steps + steps_in event) lines >>= (λ events. Ok (event ∷ events))))
+    if is_no_step line then events_from links (number + 1) steps lines else do
+      event ← at_line number (step_of links steps line)
+      events ← events_from links (number + 1) (steps + steps_in event) lines
+      Ok (event ∷ events)
 
 -- the events of a script, or its first line that is refused
 unfoldable pub events_of : ℕ → List ℕ → Result (List Event) Refusal
@@ -46,7 +47,3 @@ events_of links text = events_from links 1 0 (lines_of text)
 abbrev pub IsRefusal : Result (List Event) Refusal → ScriptFault → Type 0
 IsRefusal read Memory = ⊤
 IsRefusal read (Refused line why) = read ≡ Err (record { line = line; why = why })
-
--- what a script of these events becomes by further lines, of which the first has this number
-unfoldable pub script_from : ℕ → List Event → ℕ → List (List ℕ) → Result (List Event) Refusal
-script_from links front number lines = events_from links number (steps_in_all front) lines >>= (λ events. Ok (front ++ events))

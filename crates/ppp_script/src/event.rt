@@ -10,7 +10,7 @@ pub enum End {
     B,
 }
 
-/// A line of a script. A link is 1 to 16.
+/// A line of a script.
 #[derive(Clone, Copy, Debug, PartialEq, Eq)]
 pub enum Event {
     /// The line below the link comes up at that end.

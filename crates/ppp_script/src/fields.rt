@@ -2,9 +2,10 @@
 
 ghost use Rattle.std.specs.Prelude.{◌≡◌, ◌<◌, ◌≤◌, ◌↔◌, length, slice_index, IsTrue, IfSome, IfOk};
 ghost use Rattle.ppp_script.specs.Fields.{next_field, no_more, number_in, end_in, link_in, protocol_in};
-ghost use Rattle.ppp_script.specs.Numbers.{number_of, digits_onto, up_to};
+ghost use Rattle.ppp_script.specs.Numbers.{number_of, digits_onto};
 ghost use Rattle.ppp_script.specs.Events.{IsLink};
 ghost use Rattle.ppp_script.specs.Results.{Gives};
+ghost use Rattle.ppp_script.specs.Progress.{up_to};
 
 use crate::event::End;
 use crate::fault::LineWhy;
@@ -19,7 +20,7 @@ pub(crate) struct Fields<'a> {
 }
 
 impl<'a> Fields<'a> {
-    ghost use Rattle.ppp_script.specs.FieldsLeft.{fields_left};
+    ghost use Rattle.ppp_script.specs.Progress.{fields_left};
     ghost use Rattle.ppp_script.specs.Fields.{fields_of};
 
     /// All fields of a line.

@@ -1,4 +1,4 @@
-//! The event lines of a script.
+//! The parts of an input, and the event lines of a script.
 #![tactic(auto)]
 
 mod event;
@@ -13,3 +13,6 @@ pub use fault::{LineWhy, ScriptFault};
 pub use lines::{Parts, part_input};
 pub use reading::read_script;
 pub use script::Script;
+
+#[cfg(test)]
+mod tests;

@@ -3,7 +3,8 @@
 ghost use Rattle.std.specs.Prelude.{◌≡◌, ◌==◌, ◌<◌, ◌≤◌, length, position, MatchOption};
 ghost use Rattle.std.specs.List.{position_or_len};
 ghost use Rattle.std.specs.Str.Lines.{StripsCarriageReturn};
-ghost use Rattle.ppp_script.specs.Lines.{settings_in, script_in, FirstLine, IsSplit};
+ghost use Rattle.ppp_script.specs.Lines.{settings_in, script_in};
+ghost use Rattle.ppp_script.specs.Progress.{FirstLine, IsSplit};
 
 /// The two parts of an input.
 #[derive(Clone, Copy, Debug)]
@@ -14,7 +15,8 @@ pub struct Parts<'a> {
     pub script: &'a [u8],
 }
 
-/// The parts of an input. A line ends with LF or CR LF, and the last one may lack it.
+/// Parts an input at its first line that is exactly `---`. A line ends with LF or CR LF, which the last one may lack:
+/// a last line `---` without LF parts too, and one with a CR behind it doesn't.
 pub fn part_input(text: &[u8]) -> Parts<'_>
     ensures settings { result.settings.now ≡ settings_in text.now }
     ensures script { result.script.now ≡ script_in text.now }

@@ -2,10 +2,11 @@
 
 ghost use Rattle.std.specs.Prelude.{◌≡◌, ◌+◌, ◌-◌, ◌^◌, ◌<◌, ◌≤◌, List, ℕ, ◌∷◌, Ok, IfOk, IfErr, OnOk, IsTrue, length};
 ghost use Rattle.ppp_script.specs.Results.{Gives};
-ghost use Rattle.ppp_script.specs.FieldsLeft.{fields_left};
+ghost use Rattle.ppp_script.specs.Progress.{fields_left};
 ghost use Rattle.ppp_script.specs.Reading.{place_in, link_line, protocol_line, lose_line, settle_line, event_in, event_of};
 ghost use Rattle.ppp_script.specs.Events.{steps_in, IsLink, IsWithin, AllWithin};
-ghost use Rattle.ppp_script.specs.Script.{step_of, is_no_step, script_from, events_of, IsRefusal};
+ghost use Rattle.ppp_script.specs.Script.{step_of, is_no_step, events_of, IsRefusal};
+ghost use Rattle.ppp_script.specs.Progress.{script_from};
 
 use crate::event::{End, Event, steps_of};
 use crate::fault::{LineWhy, ScriptFault};
@@ -142,7 +143,17 @@ fn read_step(line: &[u8], links: u8, steps: u32) -> Result<Event, LineWhy>
     }
 }
 
-/// The events of a script.
+/// Reads the events of a script, one a line. Empty lines and lines that begin with `#` are no events, but count
+/// as lines. A line ends with LF or CR LF, which the last one may lack, and its fields are parted by one space:
+///
+/// `up E L`, `down E L`, `open E L P`, `close E L P`, `timeout E L P`, `deliver E L`, `lose E L K`, `settle N`, `show`
+///
+/// E is `a` or `b`, L a link, P is `lcp`, K from 1 to 1024, N from 1 to 1000. Numbers have no leading zero. `links` is
+/// the number of links that are configured, 1 to 16.
+///
+/// The first line that isn't so is refused: with `Link` where a link from 1 to 255 isn't configured, with `Event` for
+/// any other deviation, the earlier one in the line where it has two, and with `Steps` where it brings the steps above
+/// 100,000.
 pub fn read_script(alloc: Global, text: &[u8], links: u8) -> Result<Script, ScriptFault>
     requires octets { length text.now < 2 ^ 32 - 1 }
     requires least { 1 ≤ links }

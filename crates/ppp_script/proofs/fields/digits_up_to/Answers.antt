@@ -1,8 +1,6 @@
-use Rattle.std.proofs.Common.{refl, sym, ap, ◌∙◌, inl, inr, arith, drop, length}
-use Rattle.std.proofs.lemmas.Bool.Decides.{nat_tests}
+use Rattle.std.proofs.Common.{refl, sym, ◌∙◌, inl, inr, arith, drop}
 use Rattle.std.proofs.lemmas.Bool.{le-leb}
-use Rattle.std.proofs.Common.{length-drop, add-one}
-use Rattle.ppp_script.specs.Numbers.{up_to, digits_onto}
+use Rattle.std.proofs.Common.{length-drop}
 use Rattle.ppp_script.proofs.NumberLemmas.{digits_onto-high, digits_onto-nil, digits_onto-next, digits_onto-other}
 use Rattle.ppp_script.proofs.fields.digits_up_to.Goals as goal
 use Rattle.ppp_script.proofs.fields.digits_up_to.Goals.{then-digit-lt48-via-then-digit-lt48, then-digit-lt48-via-else-digit-lt48+then-digit-gt57}
@@ -11,7 +9,7 @@ pub returns-then-digit-lt48-clause-value : goal.returns-then-digit-lt48-clause-v
 returns-then-digit-lt48-clause-value c =
     let same = c.loop-digit.invariant.same in
     let next = digits_onto-other c.loop-digit.value c.loop-digit.digit-index c.args.digits.now c.loop-digit-test.true
-        (elim c.then-digit-lt48.branch [ then-digit-lt48-via-then-digit-lt48 w ↦ inl w.if-digit-lt48.true | then-digit-lt48-via-else-digit-lt48+then-digit-gt57 w ↦ inr w.if-digit-gt57.true ]) in
+    (elim c.then-digit-lt48.branch [ then-digit-lt48-via-then-digit-lt48 w ↦ inl w.if-digit-lt48.true | then-digit-lt48-via-else-digit-lt48+then-digit-gt57 w ↦ inr w.if-digit-gt57.true ]) in
     rw (same, next) refl
 
 pub returns-then-value-from-clause-value : goal.returns-then-value-from-clause-value

@@ -1,6 +1,5 @@
-use Rattle.std.proofs.Common.{arith, refl, sym, ap, ◌∙◌, ne_eqb}
+use Rattle.std.proofs.Common.{refl, sym, ◌∙◌}
 use Rattle.std.proofs.lemmas.Bool.{eqb-true, false≢true}
-use Rattle.ppp_script.specs.Numbers.{up_to, number_of}
 use Rattle.ppp_script.proofs.NumberLemmas.{number_of-none, number_of-zero, number_of-digits, some_length}
 use Rattle.ppp_script.proofs.fields.number_up_to.Goals as goal
 

@@ -1,5 +1,5 @@
-use Rattle.std.proofs.Common.{sym, ◌∙◌}
-use Rattle.ppp_script.proofs.LineLemmas.{IsSplit-position, position_none}
+use Rattle.std.proofs.Common.{sym}
+use Rattle.ppp_script.proofs.LineLemmas.{IsSplit-position}
 use Rattle.ppp_script.proofs.lines.split_once.Goals as goal
 
 pub returns : goal.returns

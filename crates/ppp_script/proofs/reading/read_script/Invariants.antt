@@ -1,8 +1,9 @@
-use Rattle.std.proofs.Common.{◌≡◌, ◌+◌, ◌≤◌, ◌^◌, ◌<◌, length}
+use Rattle.std.proofs.Common.{◌≡◌, ◌+◌, ◌≤◌, length}
 use Rattle.ppp_script.specs.Events.{AllWithin}
 use Rattle.ppp_script.specs.Lines.{lines_of}
-use Rattle.ppp_script.specs.Script.{script_from, events_of}
+use Rattle.ppp_script.specs.Script.{events_of}
 use Rattle.ppp_script.proofs.reading.read_script.Given as goal
+use Rattle.ppp_script.specs.Progress.{script_from}
 
 abbrev pub invariant-lines : goal.invariant-lines
 invariant-lines l = record {
