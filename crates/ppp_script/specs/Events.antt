@@ -12,7 +12,7 @@ steps_in event = 1
 abbrev pub steps_in_all : List Event → ℕ
 steps_in_all events = sum_by steps_in events
 
--- a link, of which so many are configured
+-- a link, where so many are configured
 abbrev pub IsLink : ℕ → ℕ → Type 0
 IsLink links link = (1 ≤ link) × (link ≤ links)
 
@@ -28,6 +28,7 @@ IsWithin links (Lose end link frame) = IsLink links link × ((1 ≤ frame) × (f
 IsWithin links (Settle count) = (1 ≤ count) × (count ≤ 1000)
 IsWithin links Show = ⊤
 
+-- each of these events' numbers is within its bounds
 abbrev pub AllWithin : ℕ → List Event → Type 0
 AllWithin links events = All (IsWithin links) events
 

@@ -29,17 +29,20 @@ abbrev pub within : ℕ → ℕ → Option ℕ → Result ℕ LineWhy
 within least most None = Err why.Event
 within least most (Some n) = if nat_le least n && nat_le n most then Ok n else Err why.Event
 
+-- the number that a field is, where it is within these bounds
 abbrev pub number_in : ℕ → ℕ → List ℕ → Result ℕ LineWhy
 number_in least most field = within least most (number_of field)
 
+-- an end
 abbrev pub end_in : List ℕ → Result End LineWhy
 end_in field = if bytes_eq field (codes "a") then Ok A else if bytes_eq field (codes "b") then Ok B else Err why.Event
 
--- a link: a number from 1 to 255, refused as Link where so many aren't configured
+-- a link: a number from 1 to 255, refused as Link where it is above the number of links that are configured
 unfoldable pub link_in : ℕ → List ℕ → Result ℕ LineWhy
 link_in links field = do
   link ← number_in 1 255 field
   if nat_le link links then Ok link else Err why.Link
 
+-- a control protocol; LCP is the only one so far
 abbrev pub protocol_in : List ℕ → Result Proto LineWhy
 protocol_in field = if bytes_eq field (codes "lcp") then Ok Lcp else Err why.Event

@@ -20,6 +20,7 @@ pub record Refusal : Type 0 where
   pub line : ℕ
   pub why : LineWhy
 
+-- a line that is refused has its number with it
 abbrev pub at_line : {A : Type 0} → ℕ → Result A LineWhy → Result A Refusal
 at_line number (Ok x) = Ok x
 at_line number (Err why) = Err (record { line = number; why = why })
