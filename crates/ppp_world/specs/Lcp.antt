@@ -3,6 +3,7 @@
 use Rattle.std.specs.Prelude.{◌≡◌, ℕ, ◌+◌, ◌*◌, ◌%◌, ◌^◌, ◌≤◌, Bool, true, false, not, ◌&&◌, ◌||◌, ◌==◌, nat_le, nat_lt, if◌then◌else◌, List, [], ◌∷◌, ◌++◌, length, map, Option, Some, None, IsTrue, find}
 use Rattle.std.specs.List.{filter, find as find_first}
 use Rattle.ppp_packet.specs.ConfigOption.{ConfigOption}
+use Rattle.ppp_packet.specs.Options.{option_with, find_kind}
 use Rattle.ppp_packet.specs.Packet.{two_octets}
 use Rattle.ppp_auto.specs.Automaton.{four_octets}
 use Rattle.ppp_auto.specs.Judging.{has_kind}
@@ -84,28 +85,23 @@ judge own o word =
     else if o.kind == 5 then judge_magic (magic_of own) o.body word
     else Unknown
 
--- the body of the first option of that kind
-abbrev pub first_of_kind : ℕ → List ConfigOption → Option (List ℕ)
-first_of_kind kind [] = None
-first_of_kind kind (o ∷ os) = if o.kind == kind then Some o.body else first_of_kind kind os
-
 -- what a Nak makes of an own MRU: a value from 128 to 8,192 is taken
 abbrev pub mru_after : ConfigOption → Option (List ℕ) → ConfigOption
 mru_after last None = last
-mru_after last (Some body) = if is_good_mru body && nat_le (number body) 8192 then mru_option (number body) else last
+mru_after last (Some body) = if is_good_mru body && nat_le (number body) 8192 then option_with 1 body else last
 
 -- and of an own Magic-Number: another one is taken, or drawn
 abbrev pub magic_after : ConfigOption → Option (List ℕ) → ℕ → ConfigOption
 magic_after last None word = last
 magic_after last (Some body) word =
     if not (length body == 4) then last
-    else if is_free (number last.body) (number body) then magic_option (number body)
+    else if is_free (number last.body) (number body) then option_with 5 body
     else magic_option (pick word (number last.body))
 
 abbrev pub option_after : List ConfigOption → ℕ → ConfigOption → ConfigOption
 option_after nak word o =
-    if o.kind == 1 then mru_after o (first_of_kind 1 nak)
-    else if o.kind == 5 then magic_after o (first_of_kind 5 nak) word
+    if o.kind == 1 then mru_after o (find_kind 1 nak)
+    else if o.kind == 5 then magic_after o (find_kind 5 nak) word
     else o
 
 abbrev pub adapt_nak : List ConfigOption → List ConfigOption → ℕ → List ConfigOption
