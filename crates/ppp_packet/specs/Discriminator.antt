@@ -1,5 +1,5 @@
 -- Endpoint discriminators (RFC 1990 section 5.1.3).
-use Rattle.std.specs.Prelude.{◌≡◌, ℕ, ◌-◌, ◌≤◌, List, ◌++◌, length, take, drop, replicate}
+use Rattle.std.specs.Prelude.{◌≡◌, ℕ, ◌-◌, ◌≤◌, List, drop, replicate}
 
 -- The address is the first `size` of twenty octets; those past it are 0.
 pub record IsAddress (octets : List ℕ) (size : ℕ) : Type 0 where

@@ -10,7 +10,8 @@ ghost use Rattle.ppp_packet.specs.Options.{written, IsOptions, options_of};
 pub fn read_again()
     ensures packet { (code id : ℕ) (rest padding : List ℕ) →
         raw_packet_of (packet_octets code id rest ++ padding) ≡ Some (record { code = code; id = id; rest = rest }) }
+    ensures packet_reading { (code id : ℕ) (rest bytes : List ℕ) → All (λ octet. octet < 256) bytes →
+        (raw_packet_of bytes ≡ Some (record { code = code; id = id; rest = rest })) ↔ IsPacket code id rest bytes }
     ensures list { (list : List ConfigOption) → options_of (written list) ≡ Some list }
-    ensures reading { (list : List ConfigOption) (bytes : List ℕ) → (options_of bytes ≡ Some list) ↔ IsOptions list bytes }
-{
-}
+    ensures list_reading { (list : List ConfigOption) (bytes : List ℕ) → (options_of bytes ≡ Some list) ↔ IsOptions list bytes }
+{}
