@@ -85,24 +85,36 @@ judge own o word =
     else if o.kind == 5 then judge_magic (magic_of own) o.body word
     else Unknown
 
--- what a Nak makes of an own MRU: a value from 128 to 8,192 is taken
-abbrev pub mru_after : ConfigOption → Option (List ℕ) → ConfigOption
-mru_after last None = last
-mru_after last (Some body) = if is_good_mru body && nat_le (number body) 8192 then option_with 1 body else last
+-- an MRU is asked for from 128 to 8,192 octets, and a Magic-Number that isn't 0
+abbrev pub is_sent_mru : List ℕ → Bool
+is_sent_mru body = is_good_mru body && nat_le (number body) 8192
 
--- and of an own Magic-Number: another one is taken, or drawn
-abbrev pub magic_after : ConfigOption → Option (List ℕ) → ℕ → ConfigOption
+abbrev pub is_sent_magic : List ℕ → Bool
+is_sent_magic body = (length body == 4) && not (number body == 0)
+
+-- What a Nak makes of the body of an own MRU: another one that may be asked for is taken. A body of another size than
+-- an MRU's stays.
+abbrev pub mru_after : List ℕ → Option (List ℕ) → List ℕ
+mru_after last None = last
+mru_after last (Some body) = if (length last == 2) && is_sent_mru body then body else last
+
+-- And of the body of an own Magic-Number: another number is taken, or drawn.
+abbrev pub magic_after : List ℕ → Option (List ℕ) → ℕ → List ℕ
 magic_after last None word = last
 magic_after last (Some body) word =
-    if not (length body == 4) then last
-    else if is_free (number last.body) (number body) then option_with 5 body
-    else magic_option (pick word (number last.body))
+    if not ((length last == 4) && (length body == 4)) then last
+    else if is_free (number last) (number body) then body
+    else four_octets (pick word (number last))
+
+-- the first option of a kind counts in a Nak
+abbrev pub body_after : List ConfigOption → ℕ → ConfigOption → List ℕ
+body_after nak word o =
+    if o.kind == 1 then mru_after o.body (find_kind 1 nak)
+    else if o.kind == 5 then magic_after o.body (find_kind 5 nak) word
+    else o.body
 
 abbrev pub option_after : List ConfigOption → ℕ → ConfigOption → ConfigOption
-option_after nak word o =
-    if o.kind == 1 then mru_after o (find_kind 1 nak)
-    else if o.kind == 5 then magic_after o (find_kind 5 nak) word
-    else o
+option_after nak word o = option_with o.kind (body_after nak word o)
 
 abbrev pub adapt_nak : List ConfigOption → List ConfigOption → ℕ → List ConfigOption
 adapt_nak last nak word = map (option_after nak word) last
@@ -122,13 +134,7 @@ lcp_table s = record {
   magic = magic_of;
 }
 
--- what may be asked for: ascending distinct kinds, an MRU from 128 to 8,192, a Magic-Number that isn't 0
-abbrev pub is_sent_mru : List ℕ → Bool
-is_sent_mru body = is_good_mru body && nat_le (number body) 8192
-
-abbrev pub is_sent_magic : List ℕ → Bool
-is_sent_magic body = (length body == 4) && not (number body == 0)
-
+-- the lists that may be asked for: ascending distinct kinds, each with such a body
 abbrev pub is_sendable : List ConfigOption → Bool
 is_sendable [] = true
 is_sendable (a ∷ []) = ((a.kind == 1) && is_sent_mru a.body) || ((a.kind == 5) && is_sent_magic a.body)

@@ -12,7 +12,7 @@ use Rattle.ppp_auto.specs.Judging.{has_kind}
 use Rattle.ppp_auto.specs.Lawful.{Lawful, Passes, AllGood, NoneTwice}
 use Rattle.ppp_auto.specs.declared.verdict.Verdict.{Verdict}
 use Rattle.ppp_auto.specs.declared.verdict.Verdict.TheVariants.{Good, Bad, Unknown}
-use Rattle.ppp_world.specs.Lcp.{lcp_table, initial, judge, adapt_nak, adapt_reject, mru_after, magic_after, option_after, is_sent_mru, is_sent_magic, magic_of, pick, number, Sendable, is_sendable, IsUnknown, Allows, is_allowed, all_fine, is_fine, Compatible}
+use Rattle.ppp_world.specs.Lcp.{lcp_table, initial, judge, adapt_nak, adapt_reject, mru_after, magic_after, body_after, is_sent_mru, is_sent_magic, magic_of, pick, number, Sendable, is_sendable, IsUnknown, Allows, is_allowed, all_fine, is_fine, Compatible}
 use Rattle.ppp_world.specs.LcpSettings.{LcpSettings, IsRanged}
 
 pub number-two_octets : (n : ℕ) → n < 2 ^ 16 → number (two_octets n) ≡ n
@@ -39,15 +39,15 @@ first_sent s h word =
     let a = pick-not_zero word 0 in let b = pick-below word 0 in
     grind (arith, nat_tests, number-two_octets, number-four_octets)
 
--- an option that a Nak changes keeps its kind, and its body may be asked for where the last one could
-mru-sent : (o : ConfigOption) (body : Option (List ℕ)) → o.kind ≡ 1 → IsTrue (is_sent_mru o.body) → (mru_after o body).kind ≡ 1 × IsTrue (is_sent_mru (mru_after o body).body)
-mru-sent o None k h = (k, h)
-mru-sent o (Some body) k h = grind (arith, nat_tests)
+-- a body that may be asked for is one still after a Nak
+mru-sent : (last : List ℕ) (body : Option (List ℕ)) → is_sent_mru last ≡ true → is_sent_mru (mru_after last body) ≡ true
+mru-sent last None h = h
+mru-sent last (Some body) h = grind (arith, nat_tests)
 
-magic-sent : (o : ConfigOption) (body : Option (List ℕ)) (word : ℕ) → o.kind ≡ 5 → IsTrue (is_sent_magic o.body) → (magic_after o body word).kind ≡ 5 × IsTrue (is_sent_magic (magic_after o body word).body)
-magic-sent o None word k h = (k, h)
-magic-sent o (Some body) word k h =
-    let a = pick-not_zero word (number o.body) in let b = pick-below word (number o.body) in
+magic-sent : (last : List ℕ) (body : Option (List ℕ)) (word : ℕ) → is_sent_magic last ≡ true → is_sent_magic (magic_after last body word) ≡ true
+magic-sent last None word h = h
+magic-sent last (Some body) word h =
+    let a = pick-not_zero word (number last) in let b = pick-below word (number last) in
     grind (arith, nat_tests, number-four_octets)
 
 either-kept : (a b c d : Bool) → (a ≡ true → c ≡ true) → (b ≡ true → d ≡ true) → IsTrue (a || b) → IsTrue (c || d)
@@ -56,11 +56,11 @@ either-kept a b c d left right h = grind arith
 both-kept : (a b c d : Bool) → (a ≡ true → c ≡ true) → (b ≡ true → d ≡ true) → IsTrue (a && b) → IsTrue (c && d)
 both-kept a b c d left right h = grind arith
 
-mru-kept : (nak : List ConfigOption) (word : ℕ) (o : ConfigOption) → ((o.kind == 1) && is_sent_mru o.body) ≡ true → (((option_after nak word o).kind == 1) && is_sent_mru (option_after nak word o).body) ≡ true
-mru-kept nak word o h = let m = mru-sent o (find_kind 1 nak) in grind (arith, nat_tests, m)
+mru-kept : (nak : List ConfigOption) (word : ℕ) (o : ConfigOption) → ((o.kind == 1) && is_sent_mru o.body) ≡ true → ((o.kind == 1) && is_sent_mru (body_after nak word o)) ≡ true
+mru-kept nak word o h = let m = mru-sent o.body (find_kind 1 nak) in grind (arith, nat_tests, m)
 
-magic-kept : (nak : List ConfigOption) (word : ℕ) (o : ConfigOption) → ((o.kind == 5) && is_sent_magic o.body) ≡ true → (((option_after nak word o).kind == 5) && is_sent_magic (option_after nak word o).body) ≡ true
-magic-kept nak word o h = let m = magic-sent o (find_kind 5 nak) word in grind (arith, nat_tests, m)
+magic-kept : (nak : List ConfigOption) (word : ℕ) (o : ConfigOption) → ((o.kind == 5) && is_sent_magic o.body) ≡ true → ((o.kind == 5) && is_sent_magic (body_after nak word o)) ≡ true
+magic-kept nak word o h = let m = magic-sent o.body (find_kind 5 nak) word in grind (arith, nat_tests, m)
 
 after_nak_sent : (last nak : List ConfigOption) (word : ℕ) → Sendable last → Sendable (adapt_nak last nak word)
 after_nak_sent [] nak word h = h
