@@ -99,12 +99,13 @@ mru_after last None = last
 mru_after last (Some body) = if (length last == 2) && is_sent_mru body then body else last
 
 -- And of the body of an own Magic-Number: another number is taken, or drawn.
+abbrev pub magic_taken : ℕ → List ℕ → ℕ → List ℕ
+magic_taken own body word = if is_free own (number body) then body else four_octets (pick word own)
+
 abbrev pub magic_after : List ℕ → Option (List ℕ) → ℕ → List ℕ
 magic_after last None word = last
 magic_after last (Some body) word =
-    if not ((length last == 4) && (length body == 4)) then last
-    else if is_free (number last) (number body) then body
-    else four_octets (pick word (number last))
+    if (length last == 4) && (length body == 4) then magic_taken (number last) body word else last
 
 -- the first option of a kind counts in a Nak
 abbrev pub body_after : List ConfigOption → ℕ → ConfigOption → List ℕ
