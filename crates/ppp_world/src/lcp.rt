@@ -101,7 +101,7 @@ impl OptionTable for LcpTable {
 
     fn adapt_nak(&self, last: &OptList, nak: &Options<'_>, word: u64) -> OptList {
         let mut list = OptList::new();
-        let mut left = last.options();
+        let mut left = options_of(last);
         while let Some((option, behind)) = left.split_first() {
             put_after_nak(&mut list, option, nak, word);
             left = behind;
@@ -111,9 +111,9 @@ impl OptionTable for LcpTable {
 
     fn adapt_reject(&self, last: &OptList, reject: &Options<'_>, _word: u64) -> OptList {
         let mut list = OptList::new();
-        let mut left = last.options();
+        let mut left = options_of(last);
         while let Some((option, behind)) = left.split_first() {
-            if first_of(reject, option.kind).is_none() {
+            if !has_option(reject, option.kind) {
                 put(&mut list, option.kind, option.body);
             }
             left = behind;
@@ -128,6 +128,15 @@ impl OptionTable for LcpTable {
     ghost lawful = { λ t. lcp_lawful (record { mru = t.mru; magic = t.magic }) (record { least = t.least; most = t.most }) };
 
     ghost extends = { λ t. refl };
+}
+
+/// The options of a list, for reading.
+fn options_of(list: &OptList) -> Options<'_>
+    ensures value { result ≡ list.now }
+    ensures size { length (written result) ≤ 128 }
+{
+    prove!(list.octets().len() <= 128);
+    list.options()
 }
 
 /// Puts an option at the end of a list that has room for it.
@@ -221,6 +230,13 @@ fn first_of<'a>(list: &Options<'a>, kind: u8) -> Option<&'a [u8]>
         left = behind;
     }
     None
+}
+
+/// Whether a list has an option of this Type.
+fn has_option(list: &Options<'_>, kind: u8) -> bool
+    ensures { result ≡ has_kind kind list.now }
+{
+    first_of(list, kind).is_some()
 }
 
 /// What is thought of a Maximum-Receive-Unit: it is good from 128 octets on.
