@@ -2,3 +2,5 @@
 #![tactic(auto)]
 
 mod lcp;
+#[cfg(test)]
+mod lcp_tests;
