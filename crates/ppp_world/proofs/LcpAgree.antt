@@ -1,7 +1,5 @@
 -- Two ends with LCP's table agree exactly where the tests of the report say so.
-use Rattle.std.proofs.Common.{◌≡◌, ℕ, ◌+◌, ◌↔◌, Bool, true, false, ◌&&◌, ◌||◌, List, [], ◌∷◌, refl, sym, ◌∙◌, ap, subst, arith}
-use Rattle.std.specs.Prelude.{◌==◌, IsTrue}
-use Rattle.std.specs.Str.{bytes_eq}
+use Rattle.std.proofs.Common.{◌≡◌, ℕ, Bool, true, ◌&&◌, List, [], ◌∷◌, refl, arith}
 use Rattle.std.proofs.lemmas.Bool.Decides.{nat_tests}
 use Rattle.std.proofs.lemmas.Slice.Eq.{bytes_eq-Decides}
 use Rattle.ppp_packet.specs.ConfigOption.{ConfigOption}
@@ -9,7 +7,7 @@ use Rattle.ppp_packet.specs.Options.{option_with}
 use Rattle.ppp_auto.specs.Duet.{Duet}
 use Rattle.ppp_auto.specs.Judging.{same_option, same_list}
 use Rattle.ppp_auto.specs.TwoEnds.{Agree}
-use Rattle.ppp_world.specs.Lcp.{Sendable, Allows, Compatible, is_sendable, is_allowed, is_compatible}
+use Rattle.ppp_world.specs.Lcp.{Sendable, Allows, Compatible}
 use Rattle.ppp_world.specs.Texts.{agrees}
 
 same_option-self : (o : ConfigOption) → same_option o o ≡ true
@@ -54,19 +52,19 @@ each_seven a b c d e f g h = grind arith
 pub agrees-if : (d : Duet) → Agree Sendable Sendable Allows Allows Compatible d → agrees d ≡ true
 agrees-if d h =
     all_seven _ _ _ _ _ _ _
-        (same_list-if d.a.auto.own d.b.auto.peer h.a_acked)
-        (same_list-if d.b.auto.own d.a.auto.peer h.b_acked)
-        h.a_sends h.b_sends h.b_allows h.a_allows h.fits
+    (same_list-if d.a.auto.own d.b.auto.peer h.a_acked)
+    (same_list-if d.b.auto.own d.a.auto.peer h.b_acked)
+    h.a_sends h.b_sends h.b_allows h.a_allows h.fits
 
 pub agrees-only : (d : Duet) → agrees d ≡ true → Agree Sendable Sendable Allows Allows Compatible d
 agrees-only d h =
     let each = each_seven _ _ _ _ _ _ _ h in
     record {
-  a_acked = same_list-only d.a.auto.own d.b.auto.peer each.one;
-  b_acked = same_list-only d.b.auto.own d.a.auto.peer each.two;
-  a_sends = each.three;
-  b_sends = each.four;
-  b_allows = each.five;
-  a_allows = each.six;
-  fits = each.seven;
-}
+      a_acked = same_list-only d.a.auto.own d.b.auto.peer each.one;
+      b_acked = same_list-only d.b.auto.own d.a.auto.peer each.two;
+      a_sends = each.three;
+      b_sends = each.four;
+      b_allows = each.five;
+      a_allows = each.six;
+      fits = each.seven;
+    }

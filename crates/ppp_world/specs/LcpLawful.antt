@@ -1,7 +1,7 @@
 -- LCP's table keeps what a table of options has to keep.
-use Rattle.std.proofs.Common.{◌≡◌, ◌≢◌, ℕ, suc, ◌+◌, ◌*◌, ◌/◌, ◌%◌, ◌^◌, ◌<◌, ◌≤◌, ◌⊎◌, ◌↔◌, Bool, true, false, not, ◌&&◌, ◌||◌, List, [], ◌∷◌, ◌++◌, length, length-append, map, refl, sym, ◌∙◌, ap, inl, inr, arith, rules}
+use Rattle.std.proofs.Common.{◌≡◌, ◌≢◌, ℕ, ◌+◌, ◌^◌, ◌<◌, ◌≤◌, ◌⊎◌, ◌↔◌, Bool, true, ◌&&◌, ◌||◌, List, [], ◌∷◌, ◌++◌, length, length-append, refl, inl, arith}
 use Rattle.std.specs.Prelude.{◌==◌, if◌then◌else◌, Option, Some, None, IsTrue}
-use Rattle.std.specs.List.{list_any, filter}
+use Rattle.std.specs.List.{list_any}
 use Rattle.std.proofs.lemmas.Bool.Decides.{nat_tests}
 use Rattle.std.proofs.lemmas.List.Folds.{list_any-append}
 use Rattle.ppp_packet.specs.ConfigOption.{ConfigOption}
@@ -10,9 +10,8 @@ use Rattle.ppp_packet.specs.Packet.{two_octets}
 use Rattle.ppp_auto.specs.Automaton.{four_octets}
 use Rattle.ppp_auto.specs.Judging.{has_kind}
 use Rattle.ppp_auto.specs.Lawful.{Lawful, Passes, AllGood, NoneTwice}
-use Rattle.ppp_auto.specs.declared.verdict.Verdict.{Verdict}
 use Rattle.ppp_auto.specs.declared.verdict.Verdict.TheVariants.{Good, Bad, Unknown}
-use Rattle.ppp_world.specs.Lcp.{lcp_table, initial, judge, adapt_nak, adapt_reject, mru_after, magic_after, body_after, is_sent_mru, is_sent_magic, magic_of, pick, number, Sendable, is_sendable, IsUnknown, Allows, is_allowed, all_fine, is_fine, Compatible}
+use Rattle.ppp_world.specs.Lcp.{lcp_table, initial, judge, adapt_nak, adapt_reject, mru_after, magic_after, body_after, is_sent_mru, is_sent_magic, magic_of, pick, number, Sendable, IsUnknown, Allows, all_fine, Compatible}
 use Rattle.ppp_world.specs.LcpSettings.{LcpSettings, IsRanged}
 
 pub number-two_octets : (n : ℕ) → n < 2 ^ 16 → number (two_octets n) ≡ n
@@ -92,9 +91,10 @@ once-if own earlier (o ∷ os) h =
     (grind (arith, nat_tests), once-if own (earlier ++ o ∷ []) os (grind (arith, nat_tests)))
 
 allows_is : (s : LcpSettings) (own theirs : List ConfigOption) (word : ℕ) → Allows own theirs ↔ Passes (lcp_table s) own theirs word
-allows_is s own theirs word =
-    (λ h. record { good = good-if s own [] theirs word h; once = once-if (magic_of own) [] theirs h; whole = refl },
-        λ h. all_fine-if s own [] theirs word h.good h.once)
+allows_is s own theirs word = (
+  λ h. record { good = good-if s own [] theirs word h; once = once-if (magic_of own) [] theirs h; whole = refl },
+  λ h. all_fine-if s own [] theirs word h.good h.once,
+)
 
 -- a list that is fine against a Magic-Number has another one or none
 other_magic : (own : ℕ) (earlier theirs : List ConfigOption) → all_fine own earlier theirs ≡ true → (magic_of theirs ≡ 0) ⊎ (magic_of theirs ≢ own)

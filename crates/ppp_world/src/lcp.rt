@@ -1,7 +1,7 @@
 //! LCP's options as far as they are negotiated yet: Maximum-Receive-Unit and Magic-Number (RFC 1661, sections 6.1 and
 //! 6.4).
 
-ghost use Rattle.std.specs.Prelude.{◌≡◌, ◌+◌, ◌<◌, ◌≤◌, ◌↔◌, Bool, true, List, [], ◌∷◌, ◌++◌, length, refl, MatchOption, Some, None};
+ghost use Rattle.std.specs.Prelude.{◌≡◌, ◌+◌, ◌≤◌, true, [], ◌∷◌, ◌++◌, length, refl, MatchOption, Some, None};
 ghost use Rattle.ppp_packet.specs.Options.{written, option_with, find_kind};
 ghost use Rattle.ppp_packet.specs.Packet.{two_octets};
 ghost use Rattle.ppp_packet.specs.Readings.{option_in};
@@ -9,7 +9,6 @@ ghost use Rattle.ppp_auto.specs.Automaton.{four_octets};
 ghost use Rattle.ppp_auto.specs.Judging.{has_kind};
 ghost use Rattle.ppp_world.specs.Lcp as spec;
 ghost use Rattle.ppp_world.specs.LcpLawful.{lcp_lawful};
-ghost use Rattle.ppp_world.specs.LcpSettings.{LcpSettings};
 
 use byteorder::{BigEndian, ByteOrder};
 use ppp_auto::{OptionTable, Verdict};

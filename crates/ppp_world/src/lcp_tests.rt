@@ -51,7 +51,12 @@ fn asks_first_for_what_is_set(rt: HostRuntime) {
         (1500, true, 4, &[5, 6, 0, 0, 0, 4]),
         (1500, true, 1 << 32, &[5, 6, 0, 0, 0, 1]),
         (1500, false, 4, &[]),
-        (128, true, 0xffff_ffff, &[1, 4, 0, 0x80, 5, 6, 255, 255, 255, 255]),
+        (
+            128,
+            true,
+            0xffff_ffff,
+            &[1, 4, 0, 0x80, 5, 6, 255, 255, 255, 255],
+        ),
     ];
     for (mru, magic, word, wanted) in rows {
         assert!(rt; mru >= 128 && mru <= 8192, "a row in range");
@@ -82,7 +87,10 @@ fn judges_options(rt: HostRuntime) {
         let good = stays_good(&table, &own, row.option, 10);
         assert_eq!(rt; good, row.better == Some([].as_slice()));
     }
-    assert!(rt; table.missing(&own, &own.options(), 9).is_none(), "nothing is missing");
+    assert!(rt;
+        table.missing(&own, &own.options(), 9).is_none(),
+        "nothing is missing"
+    );
 }
 
 #[test]
@@ -91,7 +99,10 @@ fn adapts_to_naks(rt: HostRuntime) {
         (&[1, 4, 0, 0x80], &[1, 4, 0, 0x80, 5, 6, 0, 0, 0, 4]),
         (&[1, 4, 0x20, 1], &[1, 4, 4, 0, 5, 6, 0, 0, 0, 4]),
         (&[5, 6, 0, 0, 0, 7], &[1, 4, 4, 0, 5, 6, 0, 0, 0, 7]),
-        (&[5, 6, 0, 0, 0, 4, 5, 6, 0, 0, 0, 7], &[1, 4, 4, 0, 5, 6, 0, 0, 0, 5]),
+        (
+            &[5, 6, 0, 0, 0, 4, 5, 6, 0, 0, 0, 7],
+            &[1, 4, 4, 0, 5, 6, 0, 0, 0, 5],
+        ),
         (&[5, 6, 0, 0, 0, 0], &[1, 4, 4, 0, 5, 6, 0, 0, 0, 5]),
         (&[7, 2], &[1, 4, 4, 0, 5, 6, 0, 0, 0, 4]),
     ];

@@ -1,4 +1,4 @@
-use Rattle.std.proofs.Common.{arith, rules}
+use Rattle.std.proofs.Common.{arith}
 use Rattle.ppp_world.proofs.LcpLemmas.{has_kind-some, has_kind-none}
 use Rattle.ppp_world.proofs.lcp.has_option.Goals as goal
 

@@ -1,4 +1,3 @@
-use Rattle.std.proofs.Common.{rules}
 use Rattle.ppp_world.proofs.lcp_tests.list_after.Goals as goal
 
 pub returns : goal.returns

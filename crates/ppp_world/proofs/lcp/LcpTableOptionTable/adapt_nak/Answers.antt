@@ -8,6 +8,6 @@ loop-option-preserved c =
     let own = option_in c.in-Some.option in
     let change = option_after c.args.nak.now c.args.word in
     record {
-  changed = map-step change _ _ _ _ _ own c.loop-option.invariant.changed c.in-Some.ensures.parts c.put_after_nak.ensures;
-  room = room-step _ _ _ _ own (change own) c.loop-option.invariant.room c.in-Some.ensures.parts c.put_after_nak.ensures (length-body_after c.args.nak.now c.args.word own);
-}
+      changed = map-step change _ _ _ _ _ own c.loop-option.invariant.changed c.in-Some.ensures.parts c.put_after_nak.ensures;
+      room = room-step _ _ _ _ own (change own) c.loop-option.invariant.room c.in-Some.ensures.parts c.put_after_nak.ensures (length-body_after c.args.nak.now c.args.word own);
+    }

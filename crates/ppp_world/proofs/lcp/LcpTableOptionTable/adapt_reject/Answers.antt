@@ -8,6 +8,6 @@ pub loop-option-preserved-then-not-has_option : goal.loop-option-preserved-then-
 loop-option-preserved-then-not-has_option c =
     let own = option_in c.in-Some.option in
     record {
-  left_over = filter-kept (λ o. not (has_kind o.kind c.args.reject.now)) _ _ _ _ _ own (grind arith) c.loop-option.invariant.left_over c.in-Some.ensures.parts c.put.ensures;
-  room = room-step _ _ _ _ own own c.loop-option.invariant.room c.in-Some.ensures.parts c.put.ensures refl;
-}
+      left_over = filter-kept (λ o. not (has_kind o.kind c.args.reject.now)) _ _ _ _ _ own (grind arith) c.loop-option.invariant.left_over c.in-Some.ensures.parts c.put.ensures;
+      room = room-step _ _ _ _ own own c.loop-option.invariant.room c.in-Some.ensures.parts c.put.ensures refl;
+    }
