@@ -39,10 +39,11 @@ number_or_zero (Some body) = number body
 abbrev pub magic_of : List ConfigOption → ℕ
 magic_of list = number_or_zero (body_of 5 4 list)
 
--- the first of three numbers from a word on, in 32 bits, that is neither 0 nor one to avoid
+-- a number that is neither 0 nor the one to avoid
 abbrev pub is_free : ℕ → ℕ → Bool
 is_free avoid n = not (n == 0) && not (n == avoid)
 
+-- the first such number from a word on, in 32 bits: it is among three
 abbrev pub pick_from : ℕ → ℕ → ℕ
 pick_from w avoid =
     if is_free avoid w then w
@@ -52,7 +53,7 @@ pick_from w avoid =
 unfoldable pub pick : ℕ → ℕ → ℕ
 pick word avoid = pick_from (word % 2 ^ 32) avoid
 
--- ascending kinds, each with the own value
+-- what is asked for first: ascending kinds, each with the own value
 abbrev pub mru_asked : LcpSettings → List ConfigOption
 mru_asked s = if s.mru == 1500 then [] else mru_option s.mru ∷ []
 
@@ -92,8 +93,8 @@ is_sent_mru body = is_good_mru body && nat_le (number body) 8192
 abbrev pub is_sent_magic : List ℕ → Bool
 is_sent_magic body = (length body == 4) && not (number body == 0)
 
--- What a Nak makes of the body of an own MRU: another one that may be asked for is taken. A body of another size than
--- an MRU's stays.
+-- What a Nak makes of the body of an own MRU (RFC 1661 section 5.3): another one that may be asked
+-- for is taken. A body of another size than an MRU's stays.
 abbrev pub mru_after : List ℕ → Option (List ℕ) → List ℕ
 mru_after last None = last
 mru_after last (Some body) = if (length last == 2) && is_sent_mru body then body else last
@@ -120,7 +121,7 @@ option_after nak word o = option_with o.kind (body_after nak word o)
 abbrev pub adapt_nak : List ConfigOption → List ConfigOption → ℕ → List ConfigOption
 adapt_nak last nak word = map (option_after nak word) last
 
--- a Reject takes the rejected kinds away
+-- a Reject takes the rejected kinds away (RFC 1661 section 5.4)
 abbrev pub adapt_reject : List ConfigOption → List ConfigOption → ℕ → List ConfigOption
 adapt_reject last reject word = filter (λ o. not (has_kind o.kind reject)) last
 
