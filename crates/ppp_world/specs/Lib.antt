@@ -1,5 +1,6 @@
 pub mod Journal
 pub mod Lcp
+pub mod LcpLawful
 pub mod LcpSettings
 pub mod Run
 pub mod Steps

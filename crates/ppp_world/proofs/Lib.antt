@@ -1,0 +1,2 @@
+pub mod LcpAgree
+pub mod LcpLemmas
