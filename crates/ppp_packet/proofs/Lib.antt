@@ -1,2 +1,3 @@
-pub mod PacketLemmas
+pub mod DiscLemmas
 pub mod OptionLemmas
+pub mod PacketLemmas

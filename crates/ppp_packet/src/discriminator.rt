@@ -3,7 +3,8 @@
 ghost use Rattle.std.specs.Prelude.{◌≡◌, ◌≤◌, length, take};
 ghost use Rattle.ppp_packet.specs.Discriminator.{IsAddress};
 
-/// An endpoint discriminator: its Class, and an address of at most 20 octets.
+/// An endpoint discriminator: its Class, and an address of at most 20 octets. It is ordered by its fields, which is
+/// the order by the Class and then by the address as a list of octets ([`crate::read_again`]).
 #[derive(Clone, Copy, PartialEq, Eq, PartialOrd, Ord)]
 pub struct Disc {
     /// The Class.
@@ -12,7 +13,7 @@ pub struct Disc {
     pub address: [u8; 20],
     /// How many octets the address has.
     pub size: u8,
-    ghost is_address: { IsAddress address size },
+    pub ghost is_address: { IsAddress address size },
 }
 
 impl Disc {

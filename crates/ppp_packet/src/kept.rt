@@ -75,7 +75,7 @@ impl OptList {
         ensures none { IsNone result ↔ All (λ option. option.kind ≢ kind) self.now }
     {
         let mut left = self.options();
-        while let Some((option, behind)) = left.split_first() {
+        'options: while let Some((option, behind)) = left.split_first() {
             if option.kind == kind {
                 return Some(option.body);
             }
@@ -118,7 +118,9 @@ impl OptList {
         ensures { result ≡ self.now }
     {
         let mut octets = ArrayVec::new();
-        octets.try_extend_from_slice(self.octets.as_slice()).unwrap();
+        octets
+            .try_extend_from_slice(self.octets.as_slice())
+            .unwrap();
         OptList { octets }
     }
 }

@@ -16,3 +16,6 @@ pub use packets::{PacketRef, read_packet, write_packet};
 pub use protocol::Proto;
 pub use reading::{OptRef, Options, read_options};
 pub use single::Opt;
+
+#[cfg(test)]
+mod tests;

@@ -25,6 +25,8 @@ pub struct PacketRef<'a> {
 pub fn read_packet(bytes: &[u8]) -> Option<PacketRef<'_>>
     ensures some { IfSome result (λ p. IsPacket p.code p.id p.rest.now bytes.now) }
     ensures none { IfNone result ((code id : ℕ) (rest : List ℕ) → IsPacket code id rest bytes.now → ⊥) }
+    ensures size { IfSome result (λ p. length p.rest.now ≤ 65531) }
+    ensures within { IfSome result (λ p. 4 + length p.rest.now ≤ length bytes.now) }
     ensures exact { option_map raw_packet result ≡ raw_packet_of bytes.now }
 {
     if bytes.len() < HEADER {

@@ -114,7 +114,7 @@ fn holds_options(bytes: &[u8]) -> bool
     ensures { result ≡ is_some (options_of bytes.now) }
 {
     let mut left = bytes;
-    while !left.is_empty() {
+    'options: while !left.is_empty() {
         match first_option(left) {
             Some((_, behind)) => left = behind,
             None => return false,
@@ -139,7 +139,13 @@ fn first_option(octets: &[u8]) -> Option<(OptRef<'_>, &[u8])>
     }
     let (option, behind) = octets.split_at(size);
     let (header, body) = option.split_at(OPTION_HEADER);
-    Some((OptRef { kind: header[0], body }, behind))
+    Some((
+        OptRef {
+            kind: header[0],
+            body,
+        },
+        behind,
+    ))
 }
 
 /// The first option of a list in octets, and the octets of the others.
@@ -163,7 +169,7 @@ fn count_in(octets: &[u8]) -> usize
 {
     let mut count = 0;
     let mut left = octets;
-    while let Some((_, behind)) = first_of_list(left) {
+    'options: while let Some((_, behind)) = first_of_list(left) {
         count += 1;
         left = behind;
     }
@@ -179,7 +185,7 @@ fn option_at(octets: &[u8], i: usize) -> OptRef<'_>
 {
     let mut ahead = i;
     let mut left = octets;
-    while let Some((option, behind)) = first_of_list(left) {
+    'options: while let Some((option, behind)) = first_of_list(left) {
         if ahead == 0 {
             return option;
         }

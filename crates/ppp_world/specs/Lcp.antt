@@ -1,8 +1,9 @@
 -- LCP's options as far as they are negotiated yet: Maximum-Receive-Unit and Magic-Number (RFC 1661 sections 6.1 and
 -- 6.4). Every other option is unknown.
-use Rattle.std.specs.Prelude.{◌≡◌, ℕ, ◌+◌, ◌*◌, ◌%◌, ◌^◌, ◌≤◌, Bool, true, false, not, ◌&&◌, ◌||◌, ◌==◌, nat_le, nat_lt, if◌then◌else◌, List, [], ◌∷◌, ◌++◌, length, map, Option, Some, None, IsTrue, find}
-use Rattle.std.specs.List.{filter, find as find_first}
+use Rattle.std.specs.Prelude.{◌≡◌, ℕ, ◌+◌, ◌*◌, ◌%◌, ◌^◌, Bool, true, false, not, ◌&&◌, ◌||◌, ◌==◌, nat_le, if◌then◌else◌, List, [], ◌∷◌, ◌++◌, length, map, Option, Some, None, IsTrue}
+use Rattle.std.specs.List.{filter}
 use Rattle.ppp_packet.specs.ConfigOption.{ConfigOption}
+use Rattle.ppp_packet.specs.Options.{option_with, find_kind}
 use Rattle.ppp_packet.specs.Packet.{two_octets}
 use Rattle.ppp_auto.specs.Automaton.{four_octets}
 use Rattle.ppp_auto.specs.Judging.{has_kind}
@@ -38,10 +39,11 @@ number_or_zero (Some body) = number body
 abbrev pub magic_of : List ConfigOption → ℕ
 magic_of list = number_or_zero (body_of 5 4 list)
 
--- the first of three numbers from a word on, in 32 bits, that is neither 0 nor one to avoid
+-- a number that is neither 0 nor the one to avoid
 abbrev pub is_free : ℕ → ℕ → Bool
 is_free avoid n = not (n == 0) && not (n == avoid)
 
+-- the first such number from a word on, in 32 bits: it is among three
 abbrev pub pick_from : ℕ → ℕ → ℕ
 pick_from w avoid =
     if is_free avoid w then w
@@ -51,7 +53,7 @@ pick_from w avoid =
 unfoldable pub pick : ℕ → ℕ → ℕ
 pick word avoid = pick_from (word % 2 ^ 32) avoid
 
--- ascending kinds, each with the own value
+-- what is asked for first: ascending kinds, each with the own value
 abbrev pub mru_asked : LcpSettings → List ConfigOption
 mru_asked s = if s.mru == 1500 then [] else mru_option s.mru ∷ []
 
@@ -84,34 +86,42 @@ judge own o word =
     else if o.kind == 5 then judge_magic (magic_of own) o.body word
     else Unknown
 
--- the body of the first option of that kind
-abbrev pub first_of_kind : ℕ → List ConfigOption → Option (List ℕ)
-first_of_kind kind [] = None
-first_of_kind kind (o ∷ os) = if o.kind == kind then Some o.body else first_of_kind kind os
+-- an MRU is asked for from 128 to 8,192 octets, and a Magic-Number that isn't 0
+abbrev pub is_sent_mru : List ℕ → Bool
+is_sent_mru body = is_good_mru body && nat_le (number body) 8192
 
--- what a Nak makes of an own MRU: a value from 128 to 8,192 is taken
-abbrev pub mru_after : ConfigOption → Option (List ℕ) → ConfigOption
+abbrev pub is_sent_magic : List ℕ → Bool
+is_sent_magic body = (length body == 4) && not (number body == 0)
+
+-- What a Nak makes of the body of an own MRU (RFC 1661 section 5.3): another one that may be asked
+-- for is taken. A body of another size than an MRU's stays.
+abbrev pub mru_after : List ℕ → Option (List ℕ) → List ℕ
 mru_after last None = last
-mru_after last (Some body) = if is_good_mru body && nat_le (number body) 8192 then mru_option (number body) else last
+mru_after last (Some body) = if (length last == 2) && is_sent_mru body then body else last
 
--- and of an own Magic-Number: another one is taken, or drawn
-abbrev pub magic_after : ConfigOption → Option (List ℕ) → ℕ → ConfigOption
+-- And of the body of an own Magic-Number: another number is taken, or drawn.
+abbrev pub magic_taken : ℕ → List ℕ → ℕ → List ℕ
+magic_taken own body word = if is_free own (number body) then body else four_octets (pick word own)
+
+abbrev pub magic_after : List ℕ → Option (List ℕ) → ℕ → List ℕ
 magic_after last None word = last
 magic_after last (Some body) word =
-    if not (length body == 4) then last
-    else if is_free (number last.body) (number body) then magic_option (number body)
-    else magic_option (pick word (number last.body))
+    if (length last == 4) && (length body == 4) then magic_taken (number last) body word else last
+
+-- the first option of a kind counts in a Nak
+abbrev pub body_after : List ConfigOption → ℕ → ConfigOption → List ℕ
+body_after nak word o =
+    if o.kind == 1 then mru_after o.body (find_kind 1 nak)
+    else if o.kind == 5 then magic_after o.body (find_kind 5 nak) word
+    else o.body
 
 abbrev pub option_after : List ConfigOption → ℕ → ConfigOption → ConfigOption
-option_after nak word o =
-    if o.kind == 1 then mru_after o (first_of_kind 1 nak)
-    else if o.kind == 5 then magic_after o (first_of_kind 5 nak) word
-    else o
+option_after nak word o = option_with o.kind (body_after nak word o)
 
 abbrev pub adapt_nak : List ConfigOption → List ConfigOption → ℕ → List ConfigOption
 adapt_nak last nak word = map (option_after nak word) last
 
--- a Reject takes the rejected kinds away
+-- a Reject takes the rejected kinds away (RFC 1661 section 5.4)
 abbrev pub adapt_reject : List ConfigOption → List ConfigOption → ℕ → List ConfigOption
 adapt_reject last reject word = filter (λ o. not (has_kind o.kind reject)) last
 
@@ -126,13 +136,7 @@ lcp_table s = record {
   magic = magic_of;
 }
 
--- what may be asked for: ascending distinct kinds, an MRU from 128 to 8,192, a Magic-Number that isn't 0
-abbrev pub is_sent_mru : List ℕ → Bool
-is_sent_mru body = is_good_mru body && nat_le (number body) 8192
-
-abbrev pub is_sent_magic : List ℕ → Bool
-is_sent_magic body = (length body == 4) && not (number body == 0)
-
+-- the lists that may be asked for: ascending distinct kinds, each with such a body
 abbrev pub is_sendable : List ConfigOption → Bool
 is_sendable [] = true
 is_sendable (a ∷ []) = ((a.kind == 1) && is_sent_mru a.body) || ((a.kind == 5) && is_sent_magic a.body)

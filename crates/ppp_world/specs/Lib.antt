@@ -1,7 +1,10 @@
 pub mod Frames
 pub mod Journal
+pub mod Kinds
 pub mod Lcp
+pub mod LcpLawful
 pub mod LcpSettings
+pub mod Parties
 pub mod Replay
 pub mod Run
 pub mod Steps
