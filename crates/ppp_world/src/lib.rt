@@ -5,3 +5,6 @@ mod frame;
 mod lcp;
 mod party;
 mod queue;
+
+#[cfg(test)]
+mod lcp_tests;
