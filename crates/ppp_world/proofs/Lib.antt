@@ -1,2 +1,9 @@
+pub mod Counting
+pub mod Ends
+pub mod Entries
+pub mod Following
 pub mod LcpAgree
 pub mod LcpLemmas
+pub mod Posting
+pub mod Queues
+mod Runs

@@ -1,7 +1,11 @@
+pub mod Frames
 pub mod Journal
+pub mod Kinds
 pub mod Lcp
 pub mod LcpLawful
 pub mod LcpSettings
+pub mod Parties
+pub mod Replay
 pub mod Run
 pub mod Steps
 pub mod Texts

@@ -1,0 +1,14 @@
+use Rattle.std.proofs.Common.{◌≡◌, ℕ, ◌<◌, length, arith}
+use Rattle.ppp_world.proofs.Queues.{full, roomy}
+use Rattle.ppp_world.proofs.queue.Queue.push.Goals as goal
+
+pub returns-then-len-ge-ROOM : goal.returns-then-len-ge-ROOM
+returns-then-len-ge-ROOM c = rw (← c.self.view_is) (full 1024 _ _ c.self.invariant (omega arith))
+
+pub returns : goal.returns
+returns c =
+    let few : length c.self.inside.frames.items < 1024 = omega arith in
+    rw (c.in_ok-put.ensures.ok, ← c.self.view_is) (roomy 1024 _ _ few)
+
+pub invariant_of-self : goal.invariant_of-self
+invariant_of-self c = rw c.in_err-put.ensures.err c.self.invariant

@@ -1,0 +1,90 @@
+//! Frames under way.
+
+ghost use Rattle.std.specs.Prelude.{◌≡◌, IfOk, Some};
+ghost use Rattle.ppp_auto.specs.Packets.{packet_of};
+ghost use Rattle.ppp_world.specs.Frames.{packet_held, HoldsPacket};
+ghost use Rattle.ppp_world.specs.Kinds.{kind_of};
+
+use ppp_auto::Memory;
+use std::alloc::Global;
+use std::marker::Model;
+
+/// The kinds of packets that a world tells apart by their Code (RFC 1661 section 5).
+#[derive(Clone, Copy, Debug, PartialEq, Eq)]
+pub(crate) enum PacketKind {
+    /// A Configure-Request, code 1.
+    Request,
+    /// A Configure-Ack, code 2.
+    Ack,
+    /// A Configure-Nak or Configure-Reject, codes 3 and 4.
+    Refusal,
+    /// Any other code.
+    Other,
+}
+
+impl PacketKind {
+    /// The kind of a packet in octets.
+    pub(crate) fn of(octets: &[u8]) -> PacketKind
+        requires { HoldsPacket octets.now }
+        ensures { result ≡ kind_of (packet_held octets.now) }
+    {
+        match octets.first() {
+            Some(1) => PacketKind::Request,
+            Some(2) => PacketKind::Ack,
+            Some(3 | 4) => PacketKind::Refusal,
+            _ => PacketKind::Other,
+        }
+    }
+}
+
+/// A packet under way, and its mark: of a Configure-Request its ordinal, of an answer that of what it answers.
+#[derive(Drop)]
+pub(crate) struct Frame {
+    mark: u64,
+    octets: Vec<u8>,
+}
+
+impl Model for Frame {
+    ghost use Rattle.ppp_auto.specs.Duet.{Marked};
+    ghost use Rattle.ppp_world.specs.Frames.{packet_held, HoldsPacket};
+
+    ghost Value = { Marked };
+
+    ghost view = { λ f. record { mark = f.mark; packet = packet_held f.octets.items } };
+
+    ghost invariant = { λ f. HoldsPacket f.octets.items };
+}
+
+impl Frame {
+    /// A frame with that mark and these octets.
+    pub(crate) fn new(alloc: Global, mark: u64, octets: &[u8]) -> Result<Frame, Memory>
+        requires { HoldsPacket octets.now }
+        ensures { IfOk result (λ f. f ≡ record { mark = mark; packet = packet_held octets.now }) }
+    {
+        match Vec::from_slice(alloc, octets) {
+            Ok(octets) => Ok(Frame { mark, octets }),
+            Err(_) => Err(Memory),
+        }
+    }
+
+    /// Its mark.
+    pub(crate) fn mark(&self) -> u64
+        ensures { result ≡ self.now.mark }
+    {
+        self.mark
+    }
+
+    /// What kind its packet is.
+    pub(crate) fn kind(&self) -> PacketKind
+        ensures { result ≡ kind_of self.now.packet }
+    {
+        PacketKind::of(self.octets.as_slice())
+    }
+
+    /// Its octets.
+    pub(crate) fn octets(&self) -> &[u8]
+        ensures { packet_of result.now ≡ Some self.now.packet }
+    {
+        self.octets.as_slice()
+    }
+}
