@@ -1,3 +1,6 @@
 pub mod Answers
+pub mod Codes
+pub mod Reading
 pub mod Reply
 pub mod Words
+pub mod Writing

@@ -2,13 +2,15 @@
 use Rattle.std.specs.Prelude.{ℕ, Bool, ◌||◌, nat_lt, if◌then◌else◌, List, [], ◌∷◌, ◌++◌, length, Option, Some, None, Result, Ok, Err, codes}
 use Rattle.std.specs.Fmt.{decimal}
 use Rattle.std.specs.Str.{bytes_eq}
-use Rattle.ppp_cli.specs.Words.{Command, Replay}
+use Rattle.ppp_cli.specs.declared.words.Command.{Command}
+use Rattle.ppp_cli.specs.declared.words.Command.TheVariants.{Replay}
 use Rattle.ppp_cli.specs.declared.status.Status.{Status}
 use Rattle.ppp_cli.specs.declared.status.Status.TheVariants.{Ok as Fine, BadWords, TooLong, BadLine, Outstanding, NotBuilt}
 use Rattle.ppp_script.specs.declared.event.End.{End}
 use Rattle.ppp_script.specs.declared.event.End.TheVariants.{A, B}
 use Rattle.ppp_script.specs.declared.event.Event.{Event}
-use Rattle.ppp_script.specs.declared.LineWhy.{LineWhy}
+use Rattle.ppp_script.specs.declared.fault.LineWhy.{LineWhy}
+use Rattle.ppp_script.specs.declared.fault.LineWhy.TheVariants as why
 use Rattle.ppp_world.specs.Run.{Moment, run_of, report, Refused, refusal, before_refusal}
 use Rattle.ppp_world.specs.Steps.{Width}
 
@@ -34,9 +36,9 @@ not_built_line = codes "not built\n"
 
 -- `line K WHY`
 abbrev pub why_text : LineWhy → List ℕ
-why_text Event = codes "Event"
-why_text Link = codes "Link"
-why_text Steps = codes "Steps"
+why_text why.Event = codes "Event"
+why_text why.Link = codes "Link"
+why_text why.Steps = codes "Steps"
 
 abbrev pub bad_line : ℕ → LineWhy → List ℕ
 bad_line line why = codes "line " ++ decimal line ++ 32 ∷ (why_text why ++ 10 ∷ [])

@@ -20,3 +20,25 @@ pub enum Status {
     /// The settings aren't built yet.
     NotBuilt,
 }
+
+impl Status {
+    ghost use Rattle.std.specs.Prelude.{◌≡◌};
+    ghost use Rattle.ppp_cli.specs.Codes.{code_of};
+
+    /// The number that the process exits with.
+    pub fn code(&self) -> u8
+        ensures { result ≡ code_of self.now }
+    {
+        match self {
+            Status::Ok => 0,
+            Status::BadWords => 2,
+            Status::ReadFault => 3,
+            Status::TooLong => 4,
+            Status::BadLine(_) => 6,
+            Status::Outstanding(_) => 7,
+            Status::WriteFault => 9,
+            Status::Memory => 10,
+            Status::NotBuilt => 11,
+        }
+    }
+}

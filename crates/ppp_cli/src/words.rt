@@ -1,7 +1,7 @@
 //! The program's words.
 
-ghost use Rattle.std.specs.Prelude.{◌≡◌, map, string_bytes, MatchOption, Some, None};
-ghost use Rattle.ppp_cli.specs.Words.{command_of, Replay};
+ghost use Rattle.std.specs.Prelude.{◌≡◌, map, string_bytes};
+ghost use Rattle.ppp_cli.specs.Words.{command_of};
 
 /// What the program is to do.
 #[derive(Clone, Copy, Debug, PartialEq, Eq)]
@@ -11,7 +11,7 @@ pub(crate) enum Command {
 }
 
 /// The command of the words behind the program's name. None exactly where they are those of no command.
-pub(crate) fn command(words: &[String]) -> Option<Command>
+pub(crate) fn command_in(words: &[String]) -> Option<Command>
     ensures { result ≡ command_of (map string_bytes words.now) }
 {
     match words {
