@@ -12,16 +12,16 @@ import sys
 import time
 
 OPENING = ["up a 1", "open a 1 lcp", "up b 1", "open b 1 lcp", "deliver b 1", "deliver a 1", "deliver a 1", "deliver b 1"]
-ROUND = ["down a 1", "up a 1", "deliver b 1", "deliver a 1", "deliver a 1", "deliver b 1"]
+ROUND = ["down a 1", "up a 1", "settle 4"]
+ROUND_STEPS = 6
 SIZES = [1_000, 10_000, 100_000]
 RUNS = 5
 
 
 def script(steps):
-    lines = list(OPENING)
-    while len(lines) + len(ROUND) < steps:
-        lines += ROUND
-    lines += ["show"] * (steps - len(lines))
+    rounds = (steps - len(OPENING) - 1) // ROUND_STEPS
+    shows = steps - len(OPENING) - rounds * ROUND_STEPS
+    lines = OPENING + ROUND * rounds + ["show"] * shows
     return ("version = 1\n---\n" + "\n".join(lines) + "\n").encode()
 
 
