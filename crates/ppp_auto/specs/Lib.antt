@@ -1,5 +1,6 @@
 pub mod Answers
 pub mod Automaton
+pub mod Bare
 pub mod Duet
 pub mod Ends
 pub mod Entries

@@ -83,7 +83,12 @@ fn has_rejected<T: OptionTable>(table: &T, own: &OptList, theirs: &Options<'_>, 
 }
 
 /// The octets of the options to reject, as many as fit.
-fn rejected_options<T: OptionTable>(table: &T, own: &OptList, theirs: &Options<'_>, word: u64) -> Rest
+fn rejected_options<T: OptionTable>(
+    table: &T,
+    own: &OptList,
+    theirs: &Options<'_>,
+    word: u64,
+) -> Rest
     ensures { result.items ≡ written (fitting reject_room (rejected (judging_by (T.table table.now) own.now word) [] theirs.now)) }
 {
     let mut octets = ArrayVec::new();

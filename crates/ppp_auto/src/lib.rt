@@ -14,6 +14,8 @@ mod receive;
 mod row;
 mod state;
 mod table;
+#[cfg(test)]
+mod tests;
 mod verdict;
 
 pub use automaton::Automaton;

@@ -2,7 +2,7 @@
 
 ghost use Rattle.std.specs.Prelude.{◌≡◌, ◌+◌, ◌<◌, ◌≤◌, [], ◌∷◌, ◌++◌, length, vec_len, vec_capacity, map, take, drop, ◌-◌, IfOk, Some, slice_get};
 ghost use Rattle.ppp_packet.specs.Packet.{packet_octets};
-ghost use Rattle.ppp_auto.specs.Entries.{entry_lent, entry_kept, AreWithin};
+ghost use Rattle.ppp_auto.specs.Entries.{entry_lent, entry_kept, AreWithin, IsShort};
 
 use crate::layer_signal::LayerSignal;
 use arrayvec::ArrayVec;
@@ -66,7 +66,7 @@ impl Model for Outbox {
 
 impl Outbox {
     ghost use Rattle.ppp_auto.specs.Automaton.{Send, Signal};
-    ghost use Rattle.ppp_auto.specs.Entries.{entry_lent};
+    ghost use Rattle.ppp_auto.specs.Entries.{entry_lent, IsShort};
 
     /// An outbox with no entry. It takes the memory for all that is put into it later.
     pub fn new(alloc: Global) -> Result<Outbox, Memory>
@@ -92,7 +92,8 @@ impl Outbox {
     /// The entry at place `i`, from 0 on.
     pub fn at(&self, i: usize) -> EntryRef<'_>
         requires { i < length self.now }
-        ensures { slice_get self.now i ≡ Some (entry_lent result) }
+        ensures entry { slice_get self.now i ≡ Some (entry_lent result) }
+        ensures short { IsShort (entry_lent result) }
     {
         lend(self.octets.as_slice(), self.slots.as_slice(), i)
     }
@@ -142,7 +143,8 @@ fn put_packet(octets: &mut Vec<u8>, code: u8, id: u8, rest: &[u8])
 fn lend<'a>(octets: &'a [u8], slots: &[Slot], i: usize) -> EntryRef<'a>
     requires place { i < length slots.now }
     requires within { AreWithin octets.now slots.now }
-    ensures { slice_get (map (entry_kept octets.now) slots.now) i ≡ Some (entry_lent result) }
+    ensures entry { slice_get (map (entry_kept octets.now) slots.now) i ≡ Some (entry_lent result) }
+    ensures short { IsShort (entry_lent result) }
 {
     match slots[i] {
         Slot::Packet(start, end) => EntryRef::Send(part(octets, start, end)),
