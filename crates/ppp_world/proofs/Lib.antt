@@ -1,3 +1,5 @@
+mod Runs
+pub mod Agreeing
 pub mod Counting
 pub mod Ends
 pub mod Entries
@@ -6,4 +8,3 @@ pub mod LcpAgree
 pub mod LcpLemmas
 pub mod Posting
 pub mod Queues
-mod Runs

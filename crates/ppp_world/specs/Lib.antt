@@ -1,3 +1,4 @@
+pub mod Agreed
 pub mod Frames
 pub mod Journal
 pub mod Kinds
