@@ -5,6 +5,8 @@ mod frame;
 mod lcp;
 mod party;
 mod queue;
+mod step;
+mod two_ends;
 
 #[cfg(test)]
 mod lcp_tests;
