@@ -1,8 +1,14 @@
+pub mod Answers
 pub mod Automaton
+pub mod Bare
 pub mod Duet
+pub mod Ends
+pub mod Entries
 pub mod Judging
+pub mod Kept
 pub mod Lawful
 pub mod Packets
+pub mod Putting
 pub mod Rows
 pub mod Table
 pub mod TwoEnds

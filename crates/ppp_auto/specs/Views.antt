@@ -1,10 +1,14 @@
 -- The code's own types as the definitions see them.
-use Rattle.std.specs.Prelude.{ℕ, ◌-◌, Bool, true, false, List, [], ◌∷◌, ◌++◌, Option, Some, None}
+use Rattle.std.specs.Prelude.{ℕ, ◌-◌, if◌then◌else◌, Bool, true, false, List, [], ◌∷◌, ◌++◌, Option, Some, None}
+use Rattle.ppp_packet.specs.ConfigOption.{ConfigOption}
 use Rattle.std.specs.Option.{option_to_list}
 use Rattle.ppp_auto.specs.declared.cell.Cell.{Cell}
 use Rattle.ppp_auto.specs.declared.row.Action.{Action}
 use Rattle.ppp_auto.specs.declared.row.Action.TheVariants.{InitRestart, ZeroRestart, SendRequest, RepeatRequest, SendTerminate}
+use Rattle.ppp_auto.specs.declared.verdict.Verdict.{Verdict}
 use Rattle.ppp_auto.specs.Rows.{Row, max_configure, max_terminate}
+use Rattle.ppp_auto.specs.Judging.{same_option}
+use Rattle.ppp_auto.specs.Table.{Table}
 
 -- the row of a cell
 abbrev pub row_in : Cell → Row
@@ -19,3 +23,12 @@ restart_step (Some SendRequest) ends n = n - 1
 restart_step (Some RepeatRequest) ends n = n - 1
 restart_step (Some SendTerminate) ends n = n - 1
 restart_step action ends n = n
+
+-- what a table thinks of an option, against an own list
+abbrev pub judging_by : Table → List ConfigOption → ℕ → ConfigOption → Verdict
+judging_by t own word = λ o. t.judge own o word
+
+-- a list without its first option, where that is this one
+abbrev pub after_one : List ConfigOption → ConfigOption → List ConfigOption
+after_one [] o = []
+after_one (x ∷ xs) o = if same_option x o then xs else x ∷ xs

@@ -2,14 +2,25 @@
 //! `Outbox::new` takes memory.
 #![tactic(auto)]
 
+mod answer;
+mod automaton;
 mod cell;
+mod code;
+mod end;
+mod judging;
 mod layer_signal;
+mod outbox;
+mod receive;
 mod row;
 mod state;
 mod table;
+#[cfg(test)]
+mod tests;
 mod verdict;
 
+pub use automaton::Automaton;
 pub use layer_signal::LayerSignal;
+pub use outbox::{EntryRef, Memory, Outbox};
 pub use row::{Action, Input};
 pub use state::{AutoEvent, AutoState};
 pub use table::OptionTable;

@@ -1,0 +1,162 @@
+//! What a step of the automaton sends and tells.
+
+ghost use Rattle.std.specs.Prelude.{◌≡◌, ◌+◌, ◌<◌, ◌≤◌, [], ◌∷◌, ◌++◌, length, vec_len, vec_capacity, map, take, drop, ◌-◌, IfOk, Some, slice_get};
+ghost use Rattle.ppp_packet.specs.Packet.{packet_octets};
+ghost use Rattle.ppp_auto.specs.Entries.{entry_lent, entry_kept, AreWithin, IsShort};
+
+use crate::layer_signal::LayerSignal;
+use arrayvec::ArrayVec;
+use ppp_packet::write_packet;
+use std::alloc::Global;
+use std::marker::Model;
+use thiserror::Error;
+
+/// The most octets that a packet in an outbox has.
+const MOST_OCTETS: usize = 1500;
+
+/// The octets that an outbox holds: four packets.
+const CAPACITY: usize = 6000;
+
+/// There is no memory for an outbox.
+#[derive(Debug, Drop, Error)]
+#[error("out of memory")]
+pub struct Memory;
+
+/// An entry of an outbox: a whole packet to send, or a signal to the layers beside.
+#[derive(Clone, Copy)]
+pub enum EntryRef<'a> {
+    /// A packet to send.
+    Send(&'a [u8]),
+    /// What the layers beside are told.
+    Signal(LayerSignal),
+}
+
+/// An entry as it is kept: where its packet begins and ends, or its signal.
+#[derive(Clone, Copy)]
+pub(crate) enum Slot {
+    Packet(usize, usize),
+    Told(LayerSignal),
+}
+
+impl Default for Slot {
+    fn default() -> Slot {
+        Slot::Packet(0, 0)
+    }
+}
+
+/// A list of at most four entries, which a step of the automaton fills. It is seen as that list.
+#[derive(Drop)]
+pub struct Outbox {
+    octets: Vec<u8>,
+    slots: ArrayVec<Slot, 4>,
+}
+
+impl Model for Outbox {
+    ghost use Rattle.std.specs.Prelude.{List};
+    ghost use Rattle.ppp_auto.specs.Automaton.{Entry};
+
+    ghost Value = { List Entry };
+
+    ghost use Rattle.ppp_auto.specs.Kept.{entries_kept, IsOutbox};
+
+    ghost view = { entries_kept };
+
+    ghost invariant = { IsOutbox };
+}
+
+impl Outbox {
+    ghost use Rattle.ppp_auto.specs.Automaton.{Send, Signal};
+    ghost use Rattle.ppp_auto.specs.Entries.{entry_lent, IsShort};
+
+    /// An outbox with no entry. It takes the memory for all that is put into it later.
+    pub fn new(alloc: Global) -> Result<Outbox, Memory>
+        ensures { IfOk result (λ out. out ≡ []) }
+    {
+        match Vec::with_capacity(alloc, CAPACITY) {
+            Ok(octets) => Ok(Outbox {
+                octets,
+                slots: ArrayVec::new(),
+            }),
+            Err(_) => Err(Memory),
+        }
+    }
+
+    /// How many entries there are.
+    pub fn count(&self) -> usize
+        ensures count { result ≡ length self.now }
+        ensures few { length self.now ≤ 4 }
+    {
+        self.slots.len()
+    }
+
+    /// The entry at place `i`, from 0 on.
+    pub fn at(&self, i: usize) -> EntryRef<'_>
+        requires { i < length self.now }
+        ensures entry { slice_get self.now i ≡ Some (entry_lent result) }
+        ensures short { IsShort (entry_lent result) }
+    {
+        lend(self.octets.as_slice(), self.slots.as_slice(), i)
+    }
+
+    /// Takes all entries out.
+    pub(crate) fn clear(&mut self)
+        ensures { self.new ≡ [] }
+    {
+        self.octets.clear();
+        self.slots.clear();
+    }
+
+    /// Puts a signal at the end.
+    pub(crate) fn tell(&mut self, signal: LayerSignal)
+        requires { length self.old < 4 }
+        ensures { self.new ≡ self.old ++ Signal signal ∷ [] }
+    {
+        self.slots.push(Slot::Told(signal));
+    }
+
+    /// Puts a packet at the end.
+    pub(crate) fn send(&mut self, code: u8, id: u8, rest: &[u8])
+        requires few { length self.old < 4 }
+        requires size { length rest.now ≤ 1496 }
+        ensures { self.new ≡ self.old ++ Send (packet_octets code id rest.now) ∷ [] }
+    {
+        let start = self.octets.len();
+        put_packet(&mut self.octets, code, id, rest);
+        self.slots.push(Slot::Packet(start, self.octets.len()));
+    }
+}
+
+/// Puts the octets of a packet behind others, for which room was taken.
+fn put_packet(octets: &mut Vec<u8>, code: u8, id: u8, rest: &[u8])
+    requires size { length rest.now ≤ 1496 }
+    requires room { vec_len octets.old + (4 + length rest.now) ≤ vec_capacity octets.old }
+    ensures octets { octets.new.items ≡ octets.old.items ++ packet_octets code id rest.now }
+    ensures size { vec_len octets.new ≡ vec_len octets.old + (4 + length rest.now) }
+    ensures capacity { vec_capacity octets.old ≤ vec_capacity octets.new }
+{
+    let mut buffer = [0; MOST_OCTETS];
+    let size = write_packet(&mut buffer, code, id, rest);
+    octets.extend_from_slice(&buffer[..size]).unwrap();
+}
+
+/// The entry of the slot at place `i`.
+fn lend<'a>(octets: &'a [u8], slots: &[Slot], i: usize) -> EntryRef<'a>
+    requires place { i < length slots.now }
+    requires within { AreWithin octets.now slots.now }
+    ensures entry { slice_get (map (entry_kept octets.now) slots.now) i ≡ Some (entry_lent result) }
+    ensures short { IsShort (entry_lent result) }
+{
+    match slots[i] {
+        Slot::Packet(start, end) => EntryRef::Send(part(octets, start, end)),
+        Slot::Told(signal) => EntryRef::Signal(signal),
+    }
+}
+
+/// The octets from `start` to before `end`.
+fn part(octets: &[u8], start: usize, end: usize) -> &[u8]
+    requires order { start ≤ end }
+    requires within { end ≤ length octets.now }
+    ensures { result.now ≡ take (end - start) (drop start octets.now) }
+{
+    &octets[start..end]
+}
