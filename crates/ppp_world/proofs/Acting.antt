@@ -1,6 +1,6 @@
 -- What happens at an end, case by case, and what it leaves alone.
 use Rattle.std.proofs.Common.{◌≡◌, ℕ, suc, ◌+◌, ◌≤◌, ◌<◌, Bool, true, false, List, [], ◌∷◌, ◌++◌, take, length, refl, sym, ◌∙◌, ap, arith}
-use Rattle.std.specs.Prelude.{if◌then◌else◌}
+use Rattle.std.specs.Prelude.{Result, Ok, Err, OnOk}
 use Rattle.std.proofs.lemmas.List.{take_all}
 use Rattle.ppp_auto.specs.declared.state.AutoEvent.{AutoEvent}
 use Rattle.ppp_auto.specs.Duet.{Duet, End, Did, Marked, Side, A, B, Happening, Commands, SetsCap, RejectsProtocol, Delivers, Loses, Reboots, at_first, does, takes, happens, turned, without}
@@ -58,3 +58,11 @@ unfolding within_room
 happened_at_b a b to_a to_b what word new incoming outgoing new_is in_is out_is few =
     let room : take queue_room (acted b to_b to_a (happening_seen what) word).to_a ≡ incoming = rw (← in_is) (take_all queue_room incoming few) in
     rw (acted_beyond b a to_b to_a what word, room, new_is, out_is) refl
+
+pub always : {X E : Type 0} {P : Type 0} (r : Result X E) → P → OnOk r P
+always (Ok x) p = p
+always (Err e) p = tt
+
+pub on_ok_all : {X E : Type 0} {P Q R S : Type 0} (r : Result X E) → OnOk r P → OnOk r Q → OnOk r R → (P → Q → R → S) → OnOk r S
+on_ok_all (Ok x) p q r all = all p q r
+on_ok_all (Err e) p q r all = tt
