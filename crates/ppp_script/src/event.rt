@@ -1,3 +1,6 @@
+ghost use Rattle.std.specs.Prelude.{◌≡◌};
+ghost use Rattle.ppp_script.specs.Events.{steps_in};
+
 use ppp_packet::Proto;
 
 /// One of the two ends.
@@ -7,7 +10,7 @@ pub enum End {
     B,
 }
 
-/// A line of a script. A link is 1 to 16.
+/// A line of a script.
 #[derive(Clone, Copy, Debug, PartialEq, Eq)]
 pub enum Event {
     /// The line below the link comes up at that end.
@@ -28,4 +31,14 @@ pub enum Event {
     Settle(u16),
     /// The states are reported.
     Show,
+}
+
+/// How many steps an event is: one, but for those of a Settle.
+pub fn steps_of(event: &Event) -> u32
+    ensures { result ≡ steps_in event.now }
+{
+    match event {
+        Event::Settle(count) => u32::from(*count),
+        _ => 1,
+    }
 }
