@@ -52,8 +52,10 @@ commanded-holds t a event word out is = rw is (command_holds t a event word)
 pub taken-octets : (t : Table) (a : Auto) (octets : List ℕ) (p : Packet) (word : ℕ) → packet_of octets ≡ Some p → take_octets t a octets word ≡ take_in t a p word
 taken-octets t a octets p word is = rw is refl
 
-pub taken-holds : (t : Table) (a : Auto) (octets : List ℕ) (p : Packet) (word : ℕ) (out : List Entry) → packet_of octets ≡ Some p → out ≡ entries_of (take_octets t a octets word) → AllHold out
-taken-holds t a octets p word out is out_is = rw (out_is, taken-octets t a octets p word is) (take_in_holds t a p word)
+pub taken-holds : (t : LcpTable) (a : Auto) (octets : List ℕ) (p : Packet) (word : ℕ) (out : List Entry) → packet_of octets ≡ Some p → out ≡ entries_of (take_octets (lcp_table (record { mru = t.mru; magic = t.magic })) a octets word) → AllHold out
+taken-holds t a octets p word out is out_is =
+    let table = lcp_table (record { mru = t.mru; magic = t.magic }) in
+    rw (out_is, taken-octets table a octets p word is) (take_in_holds table a p word)
 
 pub taken-end : (t : LcpTable) (a : Auto) (n got : ℕ) (against : List ConfigOption) (m : Marked) (octets : List ℕ) (word : ℕ) (new : Auto) (out : List Entry) (n' : ℕ) (got' : ℕ) (acked : Bool) (against' : List ConfigOption) →
     IsDefault t → packet_of octets ≡ Some m.packet → let acted = take_octets (lcp_table (record { mru = t.mru; magic = t.magic })) a octets word in

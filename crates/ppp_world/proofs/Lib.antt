@@ -1,4 +1,5 @@
 mod Runs
+pub mod Acting
 pub mod Agreeing
 pub mod Counting
 pub mod Ends

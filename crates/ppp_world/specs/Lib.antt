@@ -8,5 +8,6 @@ pub mod LcpSettings
 pub mod Parties
 pub mod Replay
 pub mod Run
+pub mod StepViews
 pub mod Steps
 pub mod Texts

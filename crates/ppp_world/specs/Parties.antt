@@ -1,12 +1,12 @@
 -- What an end comes to.
-use Rattle.std.specs.Prelude.{◌≡◌, ℕ, true, Some, if◌then◌else◌}
+use Rattle.std.specs.Prelude.{◌≡◌, ℕ, ◌≤◌, true, List, length, Some, if◌then◌else◌}
 use Rattle.ppp_auto.specs.Automaton.{input_of, taken_as}
 use Rattle.ppp_auto.specs.declared.state.AutoEvent.{AutoEvent}
 use Rattle.ppp_auto.specs.declared.state.AutoState.{AutoState}
 use Rattle.ppp_auto.specs.Packets.{Packet, Request, Ack, Nak, Reject, Other}
 use Rattle.ppp_auto.specs.Duet.{End, Did, Marked, does, is_off}
 use Rattle.ppp_world.specs.declared.lcp.LcpTable.{LcpTable}
-use Rattle.ppp_world.specs.Steps.{setup}
+use Rattle.ppp_world.specs.Steps.{setup, queue_room}
 
 -- an event without a packet at an end
 abbrev pub commanded : End → AutoEvent → ℕ → Did
@@ -27,3 +27,8 @@ heard_of state got m = heard_from state got m.mark m.packet
 pub record IsDefault (t : LcpTable) : Type 0 where
   pub mru : t.mru ≡ 1500
   pub magic : t.magic ≡ true
+
+-- neither queue holds more than it has room for
+pub record HasRoom (to_a to_b : List Marked) : Type 0 where
+  pub few_a : length to_a ≤ queue_room
+  pub few_b : length to_b ≤ queue_room

@@ -6,6 +6,8 @@ pub mod laws;
 mod lcp;
 mod party;
 mod queue;
+mod step;
+mod two_ends;
 
 #[cfg(test)]
 mod lcp_tests;

@@ -1,6 +1,6 @@
 //! An end of the link.
 
-ghost use Rattle.std.specs.Prelude.{◌≡◌, ◌+◌, ◌^◌, ◌<◌, ◌≤◌, ◌++◌, ◌∷◌, [], ◌||◌, take, length, IfOk, OnOk, MatchOption, Some, None, if◌then◌else◌};
+ghost use Rattle.std.specs.Prelude.{◌≡◌, ◌+◌, ◌^◌, ◌<◌, ◌≤◌, ◌++◌, ◌∷◌, [], ◌||◌, take, length, IfOk, OnOk, option_map, if◌then◌else◌};
 ghost use Rattle.ppp_auto.specs.Automaton.{mine_of, peer_of};
 ghost use Rattle.ppp_auto.specs.Entries.{entry_lent};
 ghost use Rattle.ppp_auto.specs.Duet.{end_begun, takes, mark_of};
@@ -63,6 +63,7 @@ impl Party {
         requires room { length queue.old ≤ queue_room }
         ensures end { OnOk result (self.new ≡ (commanded self.old event word).end) }
         ensures sent { OnOk result (queue.new ≡ take queue_room (queue.old ++ (commanded self.old event word).sent)) }
+        ensures room { length queue.new ≤ queue_room }
     {
         self.automaton.event(event, word, out);
         let posted = post(out, self.sent, 0, queue, alloc)?;
@@ -77,6 +78,7 @@ impl Party {
         requires room { length queue.old ≤ queue_room }
         ensures end { OnOk result (self.new ≡ (takes setup self.old frame.now word).end) }
         ensures sent { OnOk result (queue.new ≡ take queue_room (queue.old ++ (takes setup self.old frame.now word).sent)) }
+        ensures room { length queue.new ≤ queue_room }
     {
         self.got = heard(self.automaton.state(), self.got, frame);
         self.automaton.packet(frame.octets(), word, out);
@@ -102,14 +104,14 @@ impl Party {
 
     /// The granted own list.
     pub(crate) fn mine(&self) -> Option<&OptList>
-        ensures { MatchOption result (mine_of self.now.auto ≡ None) (λ list. mine_of self.now.auto ≡ Some list.now) }
+        ensures { option_map (λ list. list.now) result ≡ mine_of self.now.auto }
     {
         self.automaton.mine()
     }
 
     /// The list granted to the peer.
     pub(crate) fn peer(&self) -> Option<&OptList>
-        ensures { MatchOption result (peer_of self.now.auto ≡ None) (λ list. peer_of self.now.auto ≡ Some list.now) }
+        ensures { option_map (λ list. list.now) result ≡ peer_of self.now.auto }
     {
         self.automaton.peer()
     }
@@ -157,6 +159,7 @@ fn post(out: &Outbox, sent: u64, mark: u64, queue: &mut Queue, alloc: Global) ->
     ensures sent { IfOk result (λ p. p.sent ≡ requests_after sent (packets_in out.now)) }
     ensures acked { IfOk result (λ p. p.acked ≡ sends_ack (packets_in out.now)) }
     ensures queue { OnOk result (queue.new ≡ take queue_room (queue.old ++ stamped sent mark (packets_in out.now))) }
+    ensures room { length queue.new ≤ queue_room }
 {
     let mut posted = Posted { sent, acked: false };
     for i in 0..out.count() {
@@ -173,6 +176,7 @@ fn post_entry(entry: EntryRef<'_>, posted: Posted, mark: u64, queue: &mut Queue,
     ensures sent { IfOk result (λ p. p.sent ≡ requests_after posted.sent (packets_in (entry_lent entry.entry ∷ []))) }
     ensures acked { IfOk result (λ p. p.acked ≡ posted.acked || sends_ack (packets_in (entry_lent entry.entry ∷ []))) }
     ensures queue { OnOk result (queue.new ≡ take queue_room (queue.old ++ stamped posted.sent mark (packets_in (entry_lent entry.entry ∷ [])))) }
+    ensures room { length queue.new ≤ queue_room }
 {
     match entry {
         EntryRef::Send(octets) => post_packet(octets, posted, mark, queue, alloc),
@@ -184,9 +188,11 @@ fn post_entry(entry: EntryRef<'_>, posted: Posted, mark: u64, queue: &mut Queue,
 fn post_packet(octets: &[u8], posted: Posted, mark: u64, queue: &mut Queue, alloc: Global) -> Result<Posted, Memory>
     requires held { HoldsPacket octets.now }
     requires few { posted.sent + 1 < 2 ^ 64 }
+    requires room { length queue.old ≤ queue_room }
     ensures sent { IfOk result (λ p. p.sent ≡ requests_after posted.sent (packet_held octets.now ∷ [])) }
     ensures acked { IfOk result (λ p. p.acked ≡ posted.acked || sends_ack (packet_held octets.now ∷ [])) }
     ensures queue { OnOk result (queue.new ≡ take queue_room (queue.old ++ stamped posted.sent mark (packet_held octets.now ∷ []))) }
+    ensures room { length queue.new ≤ queue_room }
 {
     let kind = PacketKind::of(octets);
     let sent = count(kind, posted.sent);

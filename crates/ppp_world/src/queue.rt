@@ -50,7 +50,8 @@ impl Queue {
 
     /// Puts a frame at the end, or loses it where the queue is full.
     pub(crate) fn push(&mut self, frame: Frame) -> Result<(), Memory>
-        ensures { OnOk result (self.new ≡ take queue_room (self.old ++ frame ∷ [])) }
+        ensures ok { OnOk result (self.new ≡ take queue_room (self.old ++ frame ∷ [])) }
+        ensures room { length self.new ≤ queue_room }
     {
         if self.frames.len() >= ROOM {
             return Ok(());

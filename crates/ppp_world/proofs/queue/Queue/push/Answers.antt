@@ -2,11 +2,11 @@ use Rattle.std.proofs.Common.{◌≡◌, ℕ, ◌<◌, length, arith}
 use Rattle.ppp_world.proofs.Queues.{full, roomy}
 use Rattle.ppp_world.proofs.queue.Queue.push.Goals as goal
 
-pub returns-then-len-ge-ROOM : goal.returns-then-len-ge-ROOM
-returns-then-len-ge-ROOM c = rw (← c.self.view_is) (full 1024 _ _ c.self.invariant (omega arith))
+pub returns-then-len-ge-ROOM-clause-ok : goal.returns-then-len-ge-ROOM-clause-ok
+returns-then-len-ge-ROOM-clause-ok c = rw (← c.self.view_is) (full 1024 _ _ c.self.invariant (omega arith))
 
-pub returns : goal.returns
-returns c =
+pub returns-clause-ok : goal.returns-clause-ok
+returns-clause-ok c =
     let few : length c.self.inside.frames.items < 1024 = omega arith in
     rw (c.in_ok-put.ensures.ok, ← c.self.view_is) (roomy 1024 _ _ few)
 
