@@ -1,6 +1,12 @@
 -- In every state of a run that isn't refused two Opened ends agree.
-use Rattle.std.proofs.Common.{◌≡◌, ℕ, zero, suc, ◌+◌, ◌-◌, ◌≤◌, ◌<◌, Bool, true, false, List, [], ◌∷◌, ◌++◌, length, take, refl, sym, ap, subst, ◌∙◌, arith}
-use Rattle.std.specs.Prelude.{Option, Some, None, ◌⊎◌, nat_lt}
+use Rattle.std.proofs.lemmas.Bool.{cases_lt}
+use Rattle.std.proofs.lemmas.List.{take_all}
+use Rattle.std.proofs.Common.{⊎_elim, inl, inr, ◌≡◌, ℕ, zero, suc, ◌+◌, ◌-◌, ◌≤◌, ◌<◌, Bool, true, false, List, [], ◌∷◌, ◌++◌, length, take, refl, sym, ap, subst, ◌∙◌, arith}
+use Rattle.std.specs.Prelude.{Option, Some, None, ◌⊎◌, ◌≢◌, ◌&&◌, nat_lt, if◌then◌else◌}
+use Rattle.std.proofs.lemmas.Bool.Decides.{nat_tests}
+use Rattle.ppp_auto.specs.Automaton.{is_opened}
+use Rattle.ppp_auto.specs.declared.state.AutoState.{AutoState}
+use Rattle.ppp_auto.proofs.Spans.{narrow_start}
 use Rattle.ppp_auto.specs.declared.state.AutoState.TheVariants.{Opened}
 use Rattle.ppp_auto.specs.Duet.{Duet, Marked, Setup, Event, Happening, Commands, SetsCap, RejectsProtocol, Delivers, Loses, Reboots, Side, A, B, happens, at_first, without, start, span_of, widest, Narrow}
 use Rattle.ppp_auto.specs.TwoEnds.{NarrowIfTaken, Agree}
@@ -8,14 +14,18 @@ use Rattle.ppp_auto.proofs.Reached.{Reached, reached_start, reached_on, agreemen
 use Rattle.ppp_world.specs.Lcp.{Sendable, IsUnknown, Allows, Compatible, lcp_table}
 use Rattle.ppp_world.specs.LcpLawful.{lcp_lawful}
 use Rattle.ppp_world.specs.LcpSettings.{IsRanged}
-use Rattle.ppp_world.specs.Steps.{Step, Happens, Reports, Rests, setup, default_settings, word_of, moved, within_room, queue_room, Width, wide_of}
+use Rattle.ppp_world.specs.Steps.{Step, Happens, Reports, Rests, setup, default_settings, word_of, moved, next_delivery, within_room, queue_room, Width, too_wide, or_else, wide_of}
+use Rattle.ppp_world.specs.Agreed.{AgreesIfOpened, EachAgrees, NoneDisagrees}
+use Rattle.ppp_world.specs.Journal.{Journal, Halt, begun_journal, written_as, does_step, unless_halted, takes_step}
+use Rattle.ppp_world.specs.Run.{shown, Moment, moment_of, Place, after_moment, settling, moments_of, place_after, run_from, begun_place, run_of, before_refusal, kept_with}
+use Rattle.ppp_world.specs.Texts.{agrees, agree_of}
+use Rattle.ppp_world.proofs.LcpAgree.{agrees-if}
+use Rattle.ppp_script.specs.declared.event.End.{End}
+use Rattle.ppp_script.specs.declared.event.End.TheVariants as end
+use Rattle.ppp_script.specs.declared.event.Event.{Event as Event'}
+use Rattle.ppp_script.specs.declared.event.Event.TheVariants.{Up, Down, AdminOpen, AdminClose, Timeout, Deliver, Lose, Settle, Show}
 
--- what is behind a place is lost one by one
-short_all : (n : ℕ) (q : List Marked) → length q ≤ n → take n q ≡ q
-short_all n [] h = refl
-short_all zero (m ∷ ms) h = absurd (omega arith)
-short_all (suc n) (m ∷ ms) h = ap (λ xs. m ∷ xs) (short_all n ms (omega arith))
-
+-- what stands behind the room of a queue is lost one by one
 without_behind : (n : ℕ) (q : List Marked) → take n (without (suc n) q) ≡ take n q
 without_behind n [] = refl
 without_behind zero (m ∷ ms) = refl
@@ -25,3 +35,195 @@ without_shorter : (n : ℕ) (q : List Marked) → n < length q → length (witho
 without_shorter n [] h = absurd (omega arith)
 without_shorter zero (m ∷ ms) h = omega arith
 without_shorter (suc n) (m ∷ ms) h = let shorter = without_shorter n ms (omega arith) in omega (arith, shorter)
+
+abbrev loss : Side → Event
+loss side = record { side = side; what = Loses (suc queue_room); word = 0 }
+
+lost_a : (d : Duet) → happens setup setup d (loss A) ≡ record d { to_a = without (suc queue_room) d.to_a }
+unfolding at_first
+lost_a d = refl
+
+lost_b : (d : Duet) → happens setup setup d (loss B) ≡ record d { to_b = without (suc queue_room) d.to_b }
+unfolding at_first
+lost_b d = refl
+
+trimmed_a : Duet → Duet
+trimmed_a d = record d { to_a = take queue_room d.to_a }
+
+trimmed_b : Duet → Duet
+trimmed_b d = record d { to_b = take queue_room d.to_b }
+
+fits_a : (d : Duet) → length d.to_a ≤ queue_room → trimmed_a d ≡ d
+unfolding trimmed_a
+fits_a d h = ap (λ (q : List Marked). record d { to_a = q }) (take_all queue_room d.to_a h)
+
+fits_b : (d : Duet) → length d.to_b ≤ queue_room → trimmed_b d ≡ d
+unfolding trimmed_b
+fits_b d h = ap (λ (q : List Marked). record d { to_b = q }) (take_all queue_room d.to_b h)
+
+same_a : (d : Duet) → trimmed_a (record d { to_a = without (suc queue_room) d.to_a }) ≡ trimmed_a d
+unfolding trimmed_a
+same_a d = ap (λ (q : List Marked). record d { to_a = q }) (without_behind queue_room d.to_a)
+
+same_b : (d : Duet) → trimmed_b (record d { to_b = without (suc queue_room) d.to_b }) ≡ trimmed_b d
+unfolding trimmed_b
+same_b d = ap (λ (q : List Marked). record d { to_b = q }) (without_behind queue_room d.to_b)
+
+reached_a : (more : ℕ) (d : Duet) → length d.to_a ≤ queue_room + more → Reached setup setup d → Reached setup setup (trimmed_a d)
+reached_a zero d fits r = subst (Reached setup setup) (sym (fits_a d (omega arith))) r
+reached_a (suc more) d fits r =
+    elim (cases_lt queue_room (length d.to_a)) [
+      inr short ↦ subst (Reached setup setup) (sym (fits_a d short)) r
+    | inl long ↦
+      let shorter = without_shorter queue_room d.to_a long in
+      let one = subst (Reached setup setup) (lost_a d) (reached_on setup setup d (loss A) tt r) in
+      subst (Reached setup setup) (same_a d) (reached_a more (record d { to_a = without (suc queue_room) d.to_a }) (omega (arith, shorter)) one)
+    ]
+
+reached_b : (more : ℕ) (d : Duet) → length d.to_b ≤ queue_room + more → Reached setup setup d → Reached setup setup (trimmed_b d)
+reached_b zero d fits r = subst (Reached setup setup) (sym (fits_b d (omega arith))) r
+reached_b (suc more) d fits r =
+    elim (cases_lt queue_room (length d.to_b)) [
+      inr short ↦ subst (Reached setup setup) (sym (fits_b d short)) r
+    | inl long ↦
+      let shorter = without_shorter queue_room d.to_b long in
+      let one = subst (Reached setup setup) (lost_b d) (reached_on setup setup d (loss B) tt r) in
+      subst (Reached setup setup) (same_b d) (reached_b more (record d { to_b = without (suc queue_room) d.to_b }) (omega (arith, shorter)) one)
+    ]
+
+trimmed : (d : Duet) → trimmed_b (trimmed_a d) ≡ within_room d
+unfolding trimmed_a trimmed_b within_room
+trimmed d = refl
+
+kept_b : (d : Duet) → (trimmed_a d).to_b ≡ d.to_b
+unfolding trimmed_a
+kept_b d = refl
+
+reached_within : (d : Duet) → Reached setup setup d → Reached setup setup (within_room d)
+reached_within d r =
+    let one = reached_a (length d.to_a) d (omega arith) r in
+    subst (Reached setup setup) (trimmed d) (reached_b (length d.to_b) (trimmed_a d) (rw kept_b (omega arith)) one)
+
+-- a state in which no span is too wide is narrow
+fits_unless : (span : ℕ) → nat_lt widest span ≡ false → span ≤ widest
+fits_unless span is = grind (arith, nat_tests)
+
+fits_if : (wide : Bool) (width : Width) (span : ℕ) → nat_lt widest span ≡ wide → (if wide then Some width else None) ≡ None → span ≤ widest
+fits_if true width span is some = cc
+fits_if false width span is none = fits_unless span is
+
+not_wide : (e : End) (n : ℕ) (out back : List Marked) → too_wide e n out back ≡ None → span_of n out back ≤ widest
+not_wide e n out back h = fits_if (nat_lt widest (span_of n out back)) _ (span_of n out back) refl h
+
+neither : {X : Type 0} (x y : Option X) → or_else x y ≡ None → (x ≡ None) × (y ≡ None)
+neither None None h = (refl, refl)
+neither None (Some y) h = cc
+neither (Some x) y h = cc
+
+narrow_of : (d : Duet) → wide_of d ≡ None → Narrow d
+narrow_of d h =
+    let each = neither (too_wide end.A d.a.n d.to_b d.to_a) (too_wide end.B d.b.n d.to_a d.to_b) h in
+    record { of_a = not_wide end.A d.a.n d.to_b d.to_a each.0; of_b = not_wide end.B d.b.n d.to_a d.to_b each.1 }
+
+narrow_if : (what : Happening) (d : Duet) → Narrow d → NarrowIfTaken what d
+narrow_if (Commands event) d h = tt
+narrow_if (SetsCap cap) d h = tt
+narrow_if (RejectsProtocol id octets) d h = tt
+narrow_if Delivers d h = h
+narrow_if (Loses place) d h = tt
+narrow_if Reboots d h = tt
+
+-- a step leads on
+pub reached_step : (k : ℕ) (d : Duet) (step : Step) → Narrow d → Reached setup setup d → Reached setup setup (moved k d step)
+reached_step k d (Happens at what) narrow r = reached_within _ (reached_on setup setup d (record { side = at; what = what; word = word_of at k }) (narrow_if what d narrow) r)
+reached_step k d Reports narrow r = r
+reached_step k d Rests narrow r = r
+
+ranged : IsRanged default_settings
+ranged = record { least = omega arith; most = omega arith }
+
+-- two Opened ends agree, wherever the steps led
+pub agrees_at : (d : Duet) → Reached setup setup d → AgreesIfOpened d
+agrees_at = agreement_at setup setup Sendable Sendable IsUnknown IsUnknown Allows Allows Compatible (lcp_lawful default_settings ranged) (lcp_lawful default_settings ranged)
+
+opened_is : (s : AutoState) → is_opened s ≡ true → s ≡ Opened
+opened_is s h = grind arith
+
+pub never_disagrees : (d : Duet) → AgreesIfOpened d → agree_of d ≢ Some false
+never_disagrees d agree = not_false (is_opened d.a.auto.state) (is_opened d.b.auto.state) (agrees d)
+    (λ a b. agrees-if d (agree (opened_is d.a.auto.state a) (opened_is d.b.auto.state b)))
+  where
+    not_false : (a b c : Bool) → (a ≡ true → b ≡ true → c ≡ true) → (if a && b then Some c else None) ≡ Some false → ⊥
+    not_false true true true h is = cc
+    not_false true true false h is = let no = h refl refl in cc
+    not_false true false c h is = cc
+    not_false false b c h is = cc
+
+-- each moment of a run goes on from the one before
+abbrev Linked : Place → List Moment → Type 0
+Linked p [] = Unit {0}
+Linked p (m ∷ ms) = (m ≡ moment_of p.done p.duet m.step) × Linked (after_moment m) ms
+
+linked_append : (p : Place) (ms ns : List Moment) → Linked p ms → Linked (place_after p ms) ns → Linked p (ms ++ ns)
+linked_append p [] ns left right = right
+linked_append p (m ∷ ms) ns left right = (left.0, linked_append (after_moment m) ms ns left.1 right)
+
+linked_settling : (count : ℕ) (p : Place) → Linked p (settling count p)
+linked_settling zero p = tt
+linked_settling (suc count) p = (refl, linked_settling count (after_moment (moment_of p.done p.duet (next_delivery p.duet))))
+
+linked_event : (event : Event') (p : Place) → Linked p (moments_of event p)
+linked_event (Up e link) p = (refl, tt)
+linked_event (Down e link) p = (refl, tt)
+linked_event (AdminOpen e link proto) p = (refl, tt)
+linked_event (AdminClose e link proto) p = (refl, tt)
+linked_event (Timeout e link proto) p = (refl, tt)
+linked_event (Deliver e link) p = (refl, tt)
+linked_event (Lose e link place) p = (refl, tt)
+linked_event (Settle count) p = linked_settling count p
+linked_event Show p = (refl, tt)
+
+linked_run : (p : Place) (events : List Event') → Linked p (run_from p events)
+linked_run p [] = tt
+linked_run p (event ∷ events) = let ms = moments_of event p in linked_append p ms (run_from (place_after p ms) events) (linked_event event p) (linked_run (place_after p ms) events)
+
+kept_agree : (m : Moment) (ms : List Moment) (width : Option Width) → AgreesIfOpened m.after → (width ≡ None → EachAgrees ms) → EachAgrees (kept_with m width ms)
+kept_agree m ms (Some width) here later = tt
+kept_agree m ms None here later = (here, later refl)
+
+each_linked : (p : Place) (ms : List Moment) → Linked p ms → Narrow p.duet → Reached setup setup p.duet → EachAgrees (before_refusal ms)
+each_linked p [] links narrow r = tt
+each_linked p (m ∷ ms) links narrow r =
+    let reached : Reached setup setup m.after = subst (λ (x : Moment). Reached setup setup x.after) (sym links.0) (reached_step (p.done + 1) p.duet m.step narrow r) in
+    kept_agree m (before_refusal ms) (wide_of m.after) (agrees_at m.after reached) (λ none. each_linked (after_moment m) ms links.1 (narrow_of m.after none) reached)
+
+-- In every state of a run before the first step that is refused two Opened ends agree.
+pub each_agrees : (events : List Event') → EachAgrees (before_refusal (run_of events))
+each_agrees events = each_linked begun_place (run_of events) (linked_run begun_place events) (narrow_start setup setup) (reached_start setup setup)
+
+pub none_disagrees : (ms : List Moment) → EachAgrees ms → NoneDisagrees ms
+none_disagrees [] h = tt
+none_disagrees (m ∷ ms) h = (never_disagrees m.after h.0, none_disagrees ms h.1)
+
+-- What a world keeps: the events of its steps lead to its state, and no span is too wide unless it has halted.
+pub record IsSound (j : Journal) : Type 0 where
+  pub reached : Reached setup setup j.duet
+  pub narrow : j.halt ≡ None → Narrow j.duet
+
+pub sound_start : IsSound begun_journal
+sound_start = record { reached = reached_start setup setup; narrow = λ h. narrow_start setup setup }
+
+written_sound : (j : Journal) (after : Duet) (text : List ℕ) (width : Option Width) → Reached setup setup after → wide_of after ≡ width → IsSound (written_as j after text width)
+written_sound j after text None r is = record { reached = r; narrow = λ h. narrow_of after is }
+written_sound j after text (Some width) r is = record { reached = r; narrow = λ h. cc }
+
+unless_sound : (halt : Option Halt) (j next : Journal) → j.halt ≡ halt → IsSound j → (j.halt ≡ None → IsSound next) → IsSound (unless_halted halt j next)
+unless_sound None j next is h go = go is
+unless_sound (Some halt) j next is h go = h
+
+pub sound_step : (j : Journal) (step : Step) → IsSound j → IsSound (takes_step j step)
+unfolding takes_step
+sound_step j step h =
+    unless_sound j.halt j (does_step j step) refl h
+    (λ none. written_sound j (moved (j.steps + 1) j.duet step) (shown (moment_of j.steps j.duet step) step) (wide_of (moved (j.steps + 1) j.duet step))
+      (reached_step (j.steps + 1) j.duet step (h.narrow none) h.reached) refl)
