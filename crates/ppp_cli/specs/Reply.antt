@@ -47,11 +47,14 @@ abbrev pub end_text : End → List ℕ
 end_text A = codes "a"
 end_text B = codes "b"
 
--- `outstanding step K end E link L P sent S oldest O`
+-- `outstanding step K end E link 1 lcp sent S oldest O`
+abbrev pub outstanding_text : ℕ → End → ℕ → ℕ → List ℕ
+outstanding_text step end sent oldest =
+    codes "outstanding step " ++ decimal step ++ codes " end " ++ end_text end ++ codes " link 1 lcp sent "
+    ++ decimal sent ++ codes " oldest " ++ decimal oldest ++ codes "\n"
+
 abbrev pub outstanding_line : Refused → List ℕ
-outstanding_line r =
-    codes "outstanding step " ++ decimal r.number ++ codes " end " ++ end_text r.width.end ++ codes " link 1 lcp sent "
-    ++ decimal r.width.sent ++ codes " oldest " ++ decimal r.width.oldest ++ codes "\n"
+outstanding_line r = outstanding_text r.number r.width.end r.width.sent r.width.oldest
 
 -- the report of a run, or of its steps before the one that is refused and the line of that
 abbrev pub reply_to_run : List Moment → Option Refused → Reply

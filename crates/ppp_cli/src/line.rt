@@ -2,10 +2,11 @@
 
 ghost use Rattle.std.specs.Prelude.{◌≡◌, ◌++◌, ◌<◌, ◌^◌, OnOk, IfOk};
 ghost use Rattle.std.specs.Fmt.{decimal};
-ghost use Rattle.ppp_cli.specs.Reply.{bad_line, outstanding_line, why_text as why_text_of, end_text as end_text_of};
+ghost use Rattle.ppp_cli.specs.Reply.{bad_line, outstanding_text, why_text as why_text_of, end_text as end_text_of};
 
 use ppp_io::Memory;
 use ppp_script::{End, LineWhy};
+use ppp_world::Refusal;
 use std::alloc::Global;
 
 /// Puts a text at the end.
@@ -57,16 +58,16 @@ pub(crate) fn put_bad_line(octets: &mut Vec<u8>, alloc: Global, line: u32, why: 
 }
 
 /// `outstanding step K end E link 1 lcp sent S oldest O`, for a step that would make a span too wide.
-pub(crate) fn put_outstanding(octets: &mut Vec<u8>, alloc: Global, refused: &RefusedStep) -> Result<(), Memory>
-    ensures { OnOk result (octets.new.items ≡ octets.old.items ++ outstanding_line refused.now) }
+pub(crate) fn put_outstanding(octets: &mut Vec<u8>, alloc: Global, refusal: &Refusal) -> Result<(), Memory>
+    ensures { OnOk result (octets.new.items ≡ octets.old.items ++ outstanding_text refusal.now.step refusal.now.end refusal.now.sent refusal.now.oldest) }
 {
     put(octets, b"outstanding step ")?;
-    put_number(octets, alloc, u64::from(refused.step))?;
+    put_number(octets, alloc, u64::from(refusal.step))?;
     put(octets, b" end ")?;
-    put(octets, end_text(refused.end))?;
+    put(octets, end_text(refusal.end))?;
     put(octets, b" link 1 lcp sent ")?;
-    put_number(octets, alloc, refused.sent)?;
+    put_number(octets, alloc, refusal.sent)?;
     put(octets, b" oldest ")?;
-    put_number(octets, alloc, refused.oldest)?;
+    put_number(octets, alloc, refusal.oldest)?;
     put(octets, b"\n")
 }

@@ -1,0 +1,45 @@
+//! The whole program.
+
+ghost use Rattle.std.specs.Prelude.{◌≡◌, ◌≤◌, List, ℕ, length, map, string_bytes, Some, None};
+ghost use Rattle.ppp_io.specs.Causes.{Rose};
+ghost use Rattle.ppp_io.specs.Told.{PutsOn, TakesOff, IsDrained};
+ghost use Rattle.ppp_cli.specs.Answers.{Answers, AgreesIfReplayed, EndsRead};
+ghost use Rattle.ppp_cli.specs.Reply.{read_fault_line, reply_to};
+ghost use Rattle.ppp_cli.specs.Words.{command_of};
+
+use crate::answer::answer;
+use crate::reading::{Input, read_input};
+use crate::status::Status;
+use crate::words::{Command, command_in};
+use crate::writing::finish;
+use ppp_io::{Memory, Sink, Source};
+use std::alloc::Global;
+
+/// The line for words that are no command's.
+const USAGE: &[u8] =
+    b"usage: pppd replay, feed, show, vectors, soak SEED COUNT, serve TURNS, pair TURNS\n";
+
+/// Runs the program: with the words behind its name, over an input and an output. It replies to the words, and to the
+/// whole input where the words are a command's.
+pub fn ppp_run<S: Source, K: Sink>(
+    alloc: Global,
+    args: &[String],
+    input: &mut S,
+    output: &mut K,
+) -> Status
+    // The status and the octets are those of the reply to exactly what was read, but for faults and want of memory.
+    ensures reply { Answers (Rose (S.faults input.old) (S.faults input.new)) (reply_to (command_of (map string_bytes args.now)) (S.left input.old)) result (K.held output.old) (K.held output.new) }
+    // In every state of the run that is replayed two Opened ends agree.
+    ensures agreed { AgreesIfReplayed (command_of (map string_bytes args.now)) (S.left input.old) }
+    ensures words { result ≡ Status.BadWords → command_of (map string_bytes args.now) ≡ None }
+    ensures read_end { result ≡ Status.Ok → IsDrained (S.left input.new) }
+    ensures long { result ≡ Status.TooLong → (taken : List ℕ) × TakesOff (S.left input.old) (S.left input.new) taken × (length taken ≡ 1048577) }
+    ensures read_line { result ≡ Status.ReadFault → PutsOn (K.held output.old) (K.held output.new) read_fault_line }
+    ensures read { result ≡ Status.ReadFault → Rose (S.faults input.old) (S.faults input.new) }
+    ensures write { result ≡ Status.WriteFault → Rose (K.faults output.old) (K.faults output.new) }
+{
+    match command_in(args) {
+        None => finish(output, Status::BadWords, USAGE),
+        Some(Command::Replay) => run_replay(alloc, input, output),
+    }
+}
