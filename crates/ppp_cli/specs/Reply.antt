@@ -11,6 +11,8 @@ use Rattle.ppp_script.specs.declared.event.End.TheVariants.{A, B}
 use Rattle.ppp_script.specs.declared.event.Event.{Event}
 use Rattle.ppp_script.specs.declared.fault.LineWhy.{LineWhy}
 use Rattle.ppp_script.specs.declared.fault.LineWhy.TheVariants as why
+use Rattle.ppp_script.specs.Lines.{settings_in, script_in}
+use Rattle.ppp_script.specs.Script.{Refusal, events_of}
 use Rattle.ppp_world.specs.Run.{Moment, run_of, report, Refused, refusal, before_refusal}
 use Rattle.ppp_world.specs.Steps.{Width}
 

@@ -2,7 +2,7 @@
 
 ghost use Rattle.std.specs.Prelude.{◌≡◌, ◌≤◌, ◌++◌, length, IfOk, string_bytes, bytes_eq};
 ghost use Rattle.ppp_cli.specs.Reply.{bad_line, is_built, reply_to_events, reply_to_text, says, not_built_line};
-ghost use Rattle.ppp_cli.specs.Replied.{told};
+ghost use Rattle.ppp_cli.specs.Replied.{told, IsPlain};
 ghost use Rattle.ppp_cli.specs.declared.status.Status.TheVariants.{BadLine, NotBuilt};
 ghost use Rattle.std.specs.Prelude.{Ok};
 
@@ -26,7 +26,8 @@ pub(crate) struct Reply {
 /// Replies to the text of an input that isn't too long.
 pub(crate) fn answer(alloc: Global, text: &[u8]) -> Result<Reply, Memory>
     requires { length text.now ≤ 1048576 }
-    ensures { IfOk result (λ reply. told reply ≡ reply_to_text text.now) }
+    ensures reply { IfOk result (λ reply. told reply ≡ reply_to_text text.now) }
+    ensures plain { IfOk result (λ reply. IsPlain reply.status) }
 {
     let parts = part_input(text);
     if !is_built(parts.settings) {
@@ -48,7 +49,8 @@ fn is_built(settings: &[u8]) -> bool
 
 /// Refuses settings that aren't built yet.
 fn refuse_settings(alloc: Global) -> Result<Reply, Memory>
-    ensures { IfOk result (λ reply. told reply ≡ says NotBuilt not_built_line) }
+    ensures reply { IfOk result (λ reply. told reply ≡ says NotBuilt not_built_line) }
+    ensures plain { IfOk result (λ reply. IsPlain reply.status) }
 {
     Ok(Reply {
         status: Status::NotBuilt,
@@ -58,7 +60,8 @@ fn refuse_settings(alloc: Global) -> Result<Reply, Memory>
 
 /// Refuses a line of the script.
 fn refuse_line(alloc: Global, line: u32, why: LineWhy) -> Result<Reply, Memory>
-    ensures { IfOk result (λ reply. told reply ≡ says (BadLine line) (bad_line line why)) }
+    ensures reply { IfOk result (λ reply. told reply ≡ says (BadLine line) (bad_line line why)) }
+    ensures plain { IfOk result (λ reply. IsPlain reply.status) }
 {
     let mut octets = Vec::new(alloc);
     put_bad_line(&mut octets, alloc, line, why)?;
@@ -71,7 +74,8 @@ fn refuse_line(alloc: Global, line: u32, why: LineWhy) -> Result<Reply, Memory>
 /// Replays a script, and replies with its report; where a step is refused the report is that of the steps before it, and
 /// the line of the refusal follows.
 fn answer_script(alloc: Global, script: &Script) -> Result<Reply, Memory>
-    ensures { IfOk result (λ reply. told reply ≡ reply_to_events (Ok script.now)) }
+    ensures reply { IfOk result (λ reply. told reply ≡ reply_to_events (Ok script.now)) }
+    ensures plain { IfOk result (λ reply. IsPlain reply.status) }
 {
     let replayed = replay(alloc, script)?;
     let mut octets = replayed.report;
