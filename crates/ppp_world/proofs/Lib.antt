@@ -1,4 +1,5 @@
 pub mod Acting
+pub mod Allowing
 pub mod Counting
 pub mod Ends
 pub mod Entries
@@ -7,4 +8,6 @@ pub mod LcpAgree
 pub mod LcpLemmas
 pub mod Posting
 pub mod Queues
+pub mod Replays
 mod Runs
+pub mod Stepping

@@ -1,4 +1,5 @@
 pub mod Frames
+pub mod Halts
 pub mod Journal
 pub mod Kinds
 pub mod Lcp
@@ -6,6 +7,7 @@ pub mod LcpLawful
 pub mod LcpSettings
 pub mod Parties
 pub mod Replay
+pub mod Replays
 pub mod Run
 pub mod StepViews
 pub mod Steps
