@@ -1,15 +1,17 @@
 -- The replay of a script, event by event.
 use Rattle.std.proofs.Common.{◌≡◌, ℕ, zero, suc, ◌+◌, ◌-◌, ◌<◌, ◌≤◌, List, [], ◌∷◌, ◌++◌, drop, length, refl, sym, ◌∙◌, ap, arith}
-use Rattle.std.specs.Prelude.{Option, Some, None, Result, Ok, Err, option_map, IsSome}
+use Rattle.std.specs.Prelude.{Option, Some, None, Result, Ok, Err, IfOk, option_map, IsSome}
+use Rattle.std.proofs.lemmas.List.Sums.{sum_by-cons}
 use Rattle.ppp_script.specs.declared.event.Event.{Event}
 use Rattle.ppp_script.specs.declared.event.End as ends
 use Rattle.ppp_script.specs.Events.{steps_in, steps_in_all}
 use Rattle.ppp_world.specs.declared.fault.WorldFault.{WorldFault}
 use Rattle.ppp_world.specs.declared.fault.WorldFault.TheVariants as fault
+use Rattle.ppp_world.specs.declared.replaying.Refusal.{Refusal}
 use Rattle.ppp_world.specs.Halts.{answer_of, UnlessMemory, lcp_protocol}
 use Rattle.ppp_world.specs.Journal.{Journal, Halt, OutOfMemory, TooWide, begun_journal, journal_after}
 use Rattle.ppp_world.specs.Replay.{journal_after_all, Follows, halt_of, replay_of, IsNextAfter}
-use Rattle.ppp_world.specs.Replays.{refusal_of}
+use Rattle.ppp_world.specs.Replays.{refusal_of, refusal_in}
 use Rattle.ppp_world.specs.Run.{Moment, run_of, report, Refused, refusal, before_refusal}
 use Rattle.ppp_world.specs.Steps.{Width}
 use Rattle.ppp_world.proofs.Following.{follows, halted_all, before_refusal-none}
@@ -38,7 +40,7 @@ wide_if (Some OutOfMemory) width is p = absurd (cc)
 wide_if (Some (TooWide wider)) width is p = p
 
 pub replays_room : (all : List Event) (now : Journal) (rest more : List Event) (event : Event) → rest ≡ event ∷ more → ReplaysOn all now rest → now.steps + steps_in event ≤ 100000
-replays_room all now rest more event is far = let room = rw is at far.room in omega (arith, room)
+replays_room all now rest more event is far = let room = rw is at far.room in omega (arith, room, sum_by-cons steps_in event more)
 
 pub replays_next : (all : List Event) (now next : Journal) (rest more : List Event) (event : Event) (answer : Result (Unit {0}) WorldFault) → rest ≡ event ∷ more →
     answer ≡ answer_of next.halt → answer ≡ Ok tt → UnlessMemory next.halt (next ≡ journal_after now event) → next.steps ≤ now.steps + steps_in event →
@@ -49,7 +51,7 @@ replays_next all now next rest more event answer is answers ok done steps far =
     record {
       same = (rw is at far.same) ∙ ap (λ j. journal_after_all j more) (sym (done_if next.halt going done));
       going = going;
-      room = omega (arith, room, steps);
+      room = omega (arith, room, steps, sum_by-cons steps_in event more);
     }
 
 -- at the end, no step was refused
@@ -92,3 +94,20 @@ replays_refused all now next rest more event answer e link protocol sent oldest 
     let whole = rw same at (follows all) in
     let refused = the_refusal (refusal (run_of all)) width next.steps (sym why.0 ∙ whole.halt) whole.next in
     (whole.report, rw (refused, why.1, why.2) refl)
+
+-- however the world refused, what the replay comes to is right, if it comes to something
+pub replays_stopped : (all : List Event) (now next : Journal) (rest more : List Event) (event : Event) (answer : Result (Unit {0}) WorldFault) (why : WorldFault) (refused : Option Refusal) → rest ≡ event ∷ more →
+    answer ≡ answer_of next.halt → answer ≡ Err why → UnlessMemory next.halt (next ≡ journal_after now event) → ReplaysOn all now rest → refused ≡ refusal_in (next.steps + 1) why → IsSome refused →
+    (next.report ≡ (replay_of all).report) × (refused ≡ option_map refusal_of (replay_of all).refused)
+replays_stopped all now next rest more event answer fault.Memory refused is answers err done far refused_is some = absurd (cc)
+replays_stopped all now next rest more event answer (fault.Outstanding e link protocol sent oldest) refused is answers err done far refused_is some =
+    let both = replays_refused all now next rest more event answer e link protocol sent oldest is answers err done far in
+    (both.0, refused_is ∙ both.1)
+
+pub none_is : {X : Type 0} (o : Option X) → IsSome o → o ≡ None → ⊥
+none_is None some none = absurd (cc)
+none_is (Some x) some none = absurd (cc)
+
+pub if_ok_all : {X E : Type 0} {P Q R S : X → Type 0} (r : Result X E) → IfOk r P → IfOk r Q → IfOk r R → ((x : X) → P x → Q x → R x → S x) → IfOk r S
+if_ok_all (Ok x) p q r all = all x p q r
+if_ok_all (Err e) p q r all = tt

@@ -1,8 +1,8 @@
 //! The replay of a script.
 
-ghost use Rattle.std.specs.Prelude.{◌≡◌, None, IfOk, option_map};
+ghost use Rattle.std.specs.Prelude.{◌≡◌, ◌+◌, ◌≤◌, None, IsSome, IfOk, option_map};
 ghost use Rattle.ppp_world.specs.Replay.{replay_of};
-ghost use Rattle.ppp_world.specs.Replays.{refusal_of};
+ghost use Rattle.ppp_world.specs.Replays.{refusal_of, refusal_in};
 ghost use Rattle.ppp_world.specs.Run.{run_of, report};
 
 use crate::fault::WorldFault;
@@ -47,31 +47,41 @@ pub fn replay(alloc: Global, script: &Script) -> Result<Replayed, Memory>
     for i in 0..script.count() {
         match world.step(script.at(i)) {
             Ok(()) => {}
-            Err(WorldFault::Memory) => return Err(Memory),
-            Err(WorldFault::Outstanding {
-                end,
-                link,
-                protocol,
-                sent,
-                oldest,
-            }) => {
-                let refused = Refusal {
-                    step: world.steps() + 1,
-                    end,
-                    link,
-                    protocol,
-                    sent,
-                    oldest,
-                };
-                return Ok(Replayed {
-                    report: world.into_report(),
-                    refused: Some(refused),
-                });
-            }
+            Err(fault) => return stopped(world, fault),
         }
     }
     Ok(Replayed {
         report: world.into_report(),
         refused: None,
     })
+}
+
+/// What a replay comes to that a world ended by refusing a step.
+fn stopped(world: World, fault: WorldFault) -> Result<Replayed, Memory>
+    requires { world.steps ≤ 100000 }
+    ensures report { IfOk result (λ replayed. replayed.report.items ≡ world.report) }
+    ensures refused { IfOk result (λ replayed. replayed.refused ≡ refusal_in (world.steps + 1) fault) }
+    ensures some { IfOk result (λ replayed. IsSome replayed.refused) }
+{
+    let step = world.steps() + 1;
+    match fault {
+        WorldFault::Memory => Err(Memory),
+        WorldFault::Outstanding {
+            end,
+            link,
+            protocol,
+            sent,
+            oldest,
+        } => Ok(Replayed {
+            report: world.into_report(),
+            refused: Some(Refusal {
+                step,
+                end,
+                link,
+                protocol,
+                sent,
+                oldest,
+            }),
+        }),
+    }
 }
