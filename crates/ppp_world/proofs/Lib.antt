@@ -1,6 +1,7 @@
 mod Runs
 pub mod Acting
 pub mod Agreeing
+pub mod Allowing
 pub mod Counting
 pub mod Ends
 pub mod Entries
@@ -9,3 +10,5 @@ pub mod LcpAgree
 pub mod LcpLemmas
 pub mod Posting
 pub mod Queues
+pub mod Replays
+pub mod Stepping

@@ -11,28 +11,29 @@ use Rattle.ppp_script.specs.declared.event.Event.{Event}
 use Rattle.ppp_script.specs.declared.event.Event.TheVariants.{Up, Down, AdminOpen, AdminClose, Timeout, Deliver, Lose, Settle, Show}
 use Rattle.ppp_world.specs.Lcp.{pick}
 use Rattle.ppp_world.specs.Steps.{within_room}
+use Rattle.ppp_world.specs.Texts.{states_text, lists_text, agreement_text}
 use Rattle.ppp_world.specs.Run.{run_of, report, Refused, refusal, before_refusal}
 
 abbrev opened : List Event
 opened = Up A 1 ∷ AdminOpen A 1 Lcp ∷ Up B 1 ∷ AdminOpen B 1 Lcp ∷ Deliver B 1 ∷ Deliver A 1 ∷ Deliver A 1 ∷ Deliver B 1 ∷ []
 
 first_run : report (run_of (opened ++ Show ∷ [])) ≡ codes "show 9\n1 lcp Opened Opened 050600000004 050600000009 050600000009 050600000004 agree yes\n"
-unfolding at_first does takes does_row pick within_room hex_on_literals digits
+unfolding at_first does takes does_row pick within_room hex_on_literals digits states_text lists_text agreement_text
 first_run = refl
 
 -- the line goes down at an end and comes up again
 restarted : report (run_of (opened ++ Down A 1 ∷ Up A 1 ∷ Deliver B 1 ∷ Show ∷ Deliver A 1 ∷ Deliver A 1 ∷ Deliver B 1 ∷ Show ∷ [])) ≡ codes "show 12\n1 lcp Req-Sent Ack-Sent - - - 050600000014 agree -\nshow 16\n1 lcp Opened Opened 050600000014 050600000009 050600000009 050600000014 agree yes\n"
-unfolding at_first does takes does_row pick within_room hex_on_literals digits
+unfolding at_first does takes does_row pick within_room hex_on_literals digits states_text lists_text agreement_text
 restarted = refl
 
 -- the Ack of a request that isn't the last
 stale_ack : report (run_of (Up A 1 ∷ AdminOpen A 1 Lcp ∷ Up B 1 ∷ AdminOpen B 1 Lcp ∷ Deliver B 1 ∷ Timeout A 1 Lcp ∷ Deliver A 1 ∷ Deliver A 1 ∷ Show ∷ Deliver B 1 ∷ Deliver B 1 ∷ Deliver A 1 ∷ Show ∷ [])) ≡ codes "show 9\n1 lcp Ack-Sent Ack-Sent - 050600000009 - 050600000004 agree -\nshow 13\n1 lcp Opened Opened 050600000004 050600000009 050600000009 050600000004 agree yes\n"
-unfolding at_first does takes does_row pick within_room hex_on_literals digits
+unfolding at_first does takes does_row pick within_room hex_on_literals digits states_text lists_text agreement_text
 stale_ack = refl
 
 -- no answer comes, until the restart counter is used up
 given_up : report (run_of (Up A 1 ∷ AdminOpen A 1 Lcp ∷ Timeout A 1 Lcp ∷ Timeout A 1 Lcp ∷ Timeout A 1 Lcp ∷ Timeout A 1 Lcp ∷ Timeout A 1 Lcp ∷ Timeout A 1 Lcp ∷ Timeout A 1 Lcp ∷ Timeout A 1 Lcp ∷ Timeout A 1 Lcp ∷ Timeout A 1 Lcp ∷ Show ∷ Up B 1 ∷ AdminOpen B 1 Lcp ∷ Deliver A 1 ∷ Show ∷ [])) ≡ codes "show 13\n1 lcp Stopped Initial - - - - agree -\nshow 17\n1 lcp Ack-Sent Req-Sent - 05060000001f - - agree -\n"
-unfolding at_first does takes does_row pick within_room hex_on_literals digits
+unfolding at_first does takes does_row pick within_room hex_on_literals digits states_text lists_text agreement_text
 given_up = refl
 
 -- A request is sent anew 255 times while the first is under way: no step is refused. The 256th is.

@@ -1,5 +1,6 @@
 pub mod Agreed
 pub mod Frames
+pub mod Halts
 pub mod Journal
 pub mod Kinds
 pub mod Lcp
@@ -7,6 +8,7 @@ pub mod LcpLawful
 pub mod LcpSettings
 pub mod Parties
 pub mod Replay
+pub mod Replays
 pub mod Run
 pub mod StepViews
 pub mod Steps

@@ -4,7 +4,7 @@ use Rattle.std.specs.Fmt.{decimal}
 use Rattle.hex.specs.Hex.{encode_lower}
 use Rattle.ppp_packet.specs.ConfigOption.{ConfigOption}
 use Rattle.ppp_packet.specs.Options.{written}
-use Rattle.ppp_auto.specs.Automaton.{mine_of, peer_of, is_opened}
+use Rattle.ppp_auto.specs.Automaton.{Auto, mine_of, peer_of, is_opened}
 use Rattle.ppp_auto.specs.Duet.{Duet, End}
 use Rattle.ppp_auto.specs.Judging.{same_list}
 use Rattle.ppp_auto.specs.declared.state.AutoState.{AutoState}
@@ -29,14 +29,18 @@ list_text None = codes "-"
 list_text (Some []) = codes "empty"
 list_text (Some (o ∷ os)) = encode_lower (written (o ∷ os))
 
--- Whether two Opened ends agree: each one's list is what the other acknowledged last, may be asked for and was allowed
--- against the other's list of that moment, and the two lists fit.
+-- Whether two ends' lists pass, of which those were acknowledged last: each one's list is what the other acknowledged,
+-- may be asked for and was allowed against the other's list of that moment, and the two lists fit.
+abbrev pub passes : End → End → List ConfigOption → List ConfigOption → Bool
+passes a b of_a of_b =
+    same_list a.auto.own of_b && same_list b.auto.own of_a
+    && is_sendable a.auto.own && is_sendable b.auto.own
+    && is_allowed b.against a.auto.own && is_allowed a.against b.auto.own
+    && is_compatible a.auto.own b.auto.own
+
+-- whether two Opened ends agree
 abbrev pub agrees : Duet → Bool
-agrees d =
-    same_list d.a.auto.own d.b.auto.peer && same_list d.b.auto.own d.a.auto.peer
-    && is_sendable d.a.auto.own && is_sendable d.b.auto.own
-    && is_allowed d.b.against d.a.auto.own && is_allowed d.a.against d.b.auto.own
-    && is_compatible d.a.auto.own d.b.auto.own
+agrees d = passes d.a d.b d.a.auto.peer d.b.auto.peer
 
 -- None where not both are Opened
 abbrev pub agree_of : Duet → Option Bool
@@ -53,13 +57,21 @@ space = 32 ∷ []
 abbrev pub line_feed : List ℕ
 line_feed = 10 ∷ []
 
+-- the states at both ends
+unfoldable pub states_text : AutoState → AutoState → List ℕ
+states_text a b = codes "1 lcp " ++ state_name a ++ space ++ state_name b
+
+-- the lists granted to an end and to its peer
+unfoldable pub lists_text : Auto → List ℕ
+lists_text a = space ++ list_text (mine_of a) ++ space ++ list_text (peer_of a)
+
+-- whether they agree
+unfoldable pub agreement_text : Option Bool → List ℕ
+agreement_text agree = codes " agree " ++ agree_text agree ++ line_feed
+
 -- the states and lists of a link's LCP at both ends
 abbrev pub lcp_line : Duet → List ℕ
-lcp_line d =
-    codes "1 lcp " ++ state_name d.a.auto.state ++ space ++ state_name d.b.auto.state
-    ++ space ++ list_text (mine_of d.a.auto) ++ space ++ list_text (peer_of d.a.auto)
-    ++ space ++ list_text (mine_of d.b.auto) ++ space ++ list_text (peer_of d.b.auto)
-    ++ codes " agree " ++ agree_text (agree_of d) ++ line_feed
+lcp_line d = states_text d.a.auto.state d.b.auto.state ++ lists_text d.a.auto ++ lists_text d.b.auto ++ agreement_text (agree_of d)
 
 -- the block of a `show` at a step
 abbrev pub show_block : ℕ → Duet → List ℕ

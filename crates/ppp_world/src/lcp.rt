@@ -15,10 +15,10 @@ use ppp_auto::{OptionTable, Verdict};
 use ppp_packet::{Opt, OptList, OptRef, Options};
 
 /// The Type of a Maximum-Receive-Unit (RFC 1661, section 6.1).
-const MRU: u8 = 1;
+pub(crate) const MRU: u8 = 1;
 
 /// The Type of a Magic-Number (RFC 1661, section 6.4).
-const MAGIC: u8 = 5;
+pub(crate) const MAGIC: u8 = 5;
 
 /// The Maximum-Receive-Unit that holds where none is negotiated, in octets.
 const DEFAULT_MRU: u16 = 1500;
@@ -33,7 +33,7 @@ const MOST_MRU: u16 = 8192;
 const MRU_OCTETS: usize = 2;
 
 /// The octets of a Magic-Number.
-const MAGIC_OCTETS: usize = 4;
+pub(crate) const MAGIC_OCTETS: usize = 4;
 
 /// The options of LCP, and what this end asks for.
 #[derive(Drop)]
@@ -173,7 +173,7 @@ fn mru_in(body: &[u8]) -> u16
 }
 
 /// The number in the four octets of a Magic-Number.
-fn magic_in(body: &[u8]) -> u32
+pub(crate) fn magic_in(body: &[u8]) -> u32
     requires { length body.now ≡ 4 }
     ensures { result ≡ spec.number body.now }
 {
@@ -181,7 +181,7 @@ fn magic_in(body: &[u8]) -> u32
 }
 
 /// Whether a Magic-Number is neither 0 nor the one to avoid.
-fn is_free(avoid: u32, magic: u32) -> bool
+pub(crate) fn is_free(avoid: u32, magic: u32) -> bool
     ensures { result ≡ spec.is_free avoid magic }
 {
     magic != 0 && magic != avoid
@@ -204,7 +204,7 @@ fn pick(word: u64, avoid: u32) -> u32
 }
 
 /// The Magic-Number of a list, or 0.
-fn magic_of(list: &OptList) -> u32
+pub(crate) fn magic_of(list: &OptList) -> u32
     ensures { result ≡ spec.magic_of list.now }
 {
     let mut left = list.options();
@@ -284,8 +284,15 @@ fn mru_after<'a>(last: &'a [u8], nak: &Options<'a>) -> &'a [u8]
     }
 }
 
+/// Whether a Maximum-Receive-Unit is acceptable: it has 128 octets or more.
+pub(crate) fn is_good_mru(body: &[u8]) -> bool
+    ensures { result ≡ spec.is_good_mru body.now }
+{
+    body.len() == MRU_OCTETS && LEAST_MRU <= mru_in(body)
+}
+
 /// Whether a Maximum-Receive-Unit may be asked for: it has 128 to 8,192 octets.
-fn is_sent_mru(body: &[u8]) -> bool
+pub(crate) fn is_sent_mru(body: &[u8]) -> bool
     ensures { result ≡ spec.is_sent_mru body.now }
 {
     body.len() == MRU_OCTETS && (LEAST_MRU..=MOST_MRU).contains(&mru_in(body))

@@ -102,6 +102,13 @@ impl Party {
         self.automaton.state()
     }
 
+    /// The own list: that of the last Configure-Request, or of the first before it was sent.
+    pub(crate) fn own(&self) -> &OptList
+        ensures { result.now ≡ self.now.auto.own }
+    {
+        self.automaton.own()
+    }
+
     /// The granted own list.
     pub(crate) fn mine(&self) -> Option<&OptList>
         ensures { option_map (λ list. list.now) result ≡ mine_of self.now.auto }

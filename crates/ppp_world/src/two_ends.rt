@@ -1,9 +1,9 @@
 //! The two ends of the link and what is under way between them.
 
-ghost use Rattle.std.specs.Prelude.{◌≡◌, ◌≤◌, ◌<◌, ◌^◌, take, length, OnOk, IfOk};
+ghost use Rattle.std.specs.Prelude.{◌≡◌, ◌≤◌, ◌<◌, ◌^◌, take, length, option_map, OnOk, IfOk};
 ghost use Rattle.ppp_auto.specs.Duet.{start, happens};
-ghost use Rattle.ppp_world.specs.StepViews.{acted, happening_seen, step_seen};
-ghost use Rattle.ppp_world.specs.Steps.{setup, side_of, queue_room, within_room, next_delivery};
+ghost use Rattle.ppp_world.specs.StepViews.{acted, happening_seen, step_seen, width_seen};
+ghost use Rattle.ppp_world.specs.Steps.{setup, side_of, queue_room, within_room, next_delivery, too_wide, wide_of};
 
 use crate::party::Party;
 use crate::queue::Queue;
@@ -12,6 +12,20 @@ use ppp_auto::{Memory, Outbox};
 use ppp_script::End;
 use std::alloc::Global;
 use std::marker::Model;
+
+/// The widest span: an Identifier of 8 bits tells that many requests apart.
+const WIDEST: u64 = 255;
+
+/// A span that is too wide.
+#[derive(Clone, Copy, Debug, PartialEq, Eq)]
+pub(crate) struct Width {
+    /// The end whose requests they are.
+    pub(crate) end: End,
+    /// How many it has sent.
+    pub(crate) sent: u64,
+    /// The oldest of which something is under way.
+    pub(crate) oldest: u64,
+}
 
 /// The two ends of the link, and the frames under way to each.
 #[derive(Drop)]
@@ -77,6 +91,16 @@ impl TwoEnds {
         }
     }
 
+    /// The first span that is too wide, end a's before end b's.
+    pub(crate) fn too_wide(&self) -> Option<Width>
+        ensures { option_map width_seen result ≡ wide_of self.now }
+    {
+        match span_too_wide(End::A, self.a.sent(), &self.to_b, &self.to_a) {
+            Some(width) => Some(width),
+            None => span_too_wide(End::B, self.b.sent(), &self.to_a, &self.to_b),
+        }
+    }
+
     /// End a.
     pub(crate) fn a(&self) -> &Party
         ensures { result.now ≡ self.now.a }
@@ -113,5 +137,17 @@ fn act(party: &mut Party, incoming: &mut Queue, outgoing: &mut Queue, what: Happ
             incoming.lose(place);
             Ok(())
         }
+    }
+}
+
+/// An end's span, if it is too wide: after so many requests, with what is under way from it and back to it.
+fn span_too_wide(end: End, sent: u64, out: &Queue, back: &Queue) -> Option<Width>
+    ensures { option_map width_seen result ≡ too_wide end sent out.now back.now }
+{
+    let oldest = out.least_request(back.least_answer(sent));
+    if sent.saturating_sub(oldest) > WIDEST {
+        Some(Width { end, sent, oldest })
+    } else {
+        None
     }
 }
