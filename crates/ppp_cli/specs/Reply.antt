@@ -50,13 +50,14 @@ end_text A = codes "a"
 end_text B = codes "b"
 
 -- `outstanding step K end E link 1 lcp sent S oldest O`
-abbrev pub outstanding_text : ℕ → End → ℕ → ℕ → List ℕ
-outstanding_text step end sent oldest =
-    codes "outstanding step " ++ decimal step ++ codes " end " ++ end_text end ++ codes " link 1 lcp sent "
-    ++ decimal sent ++ codes " oldest " ++ decimal oldest ++ codes "\n"
+abbrev pub step_text : ℕ → End → List ℕ
+step_text step end = codes "outstanding step " ++ decimal step ++ codes " end " ++ end_text end
+
+abbrev pub span_text : ℕ → ℕ → List ℕ
+span_text sent oldest = codes " link 1 lcp sent " ++ decimal sent ++ codes " oldest " ++ decimal oldest ++ codes "\n"
 
 abbrev pub outstanding_line : Refused → List ℕ
-outstanding_line r = outstanding_text r.number r.width.end r.width.sent r.width.oldest
+outstanding_line r = step_text r.number r.width.end ++ span_text r.width.sent r.width.oldest
 
 -- the report of a run, or of its steps before the one that is refused and the line of that
 abbrev pub reply_to_run : List Moment → Option Refused → Reply

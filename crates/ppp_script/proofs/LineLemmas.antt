@@ -1,5 +1,5 @@
 -- Facts on lines, and on the parts of an input.
-use Rattle.std.proofs.Common.{◌≡◌, ◌≢◌, inl, inr, ℕ, suc, ◌+◌, ◌-◌, ◌<◌, ◌≤◌, Bool, true, false, cond, List, [], ◌∷◌, ◌++◌, length, take, drop, get_or, refl, sym, ◌∙◌, ap, arith, append_assoc, length-append, append-nil, subst, take_all, length-drop, drop-drop}
+use Rattle.std.proofs.Common.{◌≡◌, ◌≢◌, inl, inr, ℕ, zero, suc, ◌+◌, ◌-◌, ◌<◌, ◌≤◌, Bool, true, false, cond, List, [], ◌∷◌, ◌++◌, length, take, drop, get_or, refl, sym, ◌∙◌, ap, arith, append_assoc, length-append, append-nil, subst, take_all, length-drop, drop-drop}
 use Rattle.std.specs.Prelude.{Some, None, position, ◌==◌, ◌&&◌, nat_lt, not, bytes_eq, codes}
 use Rattle.std.specs.List.{position_or_len, prefix_len, onto_first, concat, before_first, after_first}
 use Rattle.std.specs.Str.Lines.{StripsCarriageReturn}
@@ -218,3 +218,15 @@ Passed-front text front rest passed =
 
 pub FirstLine-shorter : (text line behind : List ℕ) → FirstLine text line behind → length behind < length text
 FirstLine-shorter text line behind f = omega (arith, f.some, ap length f.text_is, length-append f.piece behind)
+
+-- the script of an input is no longer than the input
+length-concat-drop : (n : ℕ) (ps : List (List ℕ)) → length (concat (drop n ps)) ≤ length (concat ps)
+length-concat-drop zero ps = omega arith
+length-concat-drop (suc n) [] = omega arith
+length-concat-drop (suc n) (p ∷ ps) = let rest = length-concat-drop n ps in omega (arith, rest, length-append p (concat ps))
+
+pub script_no_longer : (text : List ℕ) → length (script_in text) ≤ length text
+unfolding script_in
+script_no_longer text =
+    let less = length-concat-drop (position_or_len is_parting (pieces_of text) + 1) (pieces_of text) in
+    omega (arith, less, ap length (concat-pieces_of text))

@@ -20,6 +20,7 @@ pub struct Parts<'a> {
 pub fn part_input(text: &[u8]) -> Parts<'_>
     ensures settings { result.settings.now ≡ settings_in text.now }
     ensures script { result.script.now ≡ script_in text.now }
+    ensures within { length result.script.now ≤ length text.now }
 {
     let mut rest = text;
     'lines: while !rest.is_empty() {

@@ -1,6 +1,6 @@
-use Rattle.std.proofs.Common.{[], ◌++◌, sym, arith, ◌∙◌}
+use Rattle.std.proofs.Common.{List, ℕ, length, ◌≤◌, [], ◌++◌, sym, subst, arith, ◌∙◌}
 use Rattle.std.proofs.lemmas.Bool.{eqb-true}
-use Rattle.ppp_script.proofs.LineLemmas.{Passed-none, Passed-line, Passed-parting, Passed-all, Passed-front, FirstLine-shorter}
+use Rattle.ppp_script.proofs.LineLemmas.{Passed-none, Passed-line, Passed-parting, Passed-all, Passed-front, FirstLine-shorter, script_no_longer}
 use Rattle.ppp_script.proofs.lines.part_input.Goals as goal
 
 pub lines-init : goal.lines-init
@@ -20,7 +20,7 @@ pub returns : goal.returns
 returns c =
     let front = c.lines.invariant in
     let all = Passed-all c.args.text.now front.0 c.lines.rest.now front.1 (omega (arith, eqb-true _ _ (sym c.lines-test.ensures))) in
-    record { settings = sym all.0; script = sym all.1 }
+    record { settings = sym all.0; script = sym all.1; within = subst (λ (xs : List ℕ). length xs ≤ length c.args.text.now) all.1 (script_no_longer c.args.text.now) }
 
 pub returns-then-eq : goal.returns-then-eq
 returns-then-eq c =
@@ -30,4 +30,5 @@ returns-then-eq c =
     record {
       settings = c.split_at.ensures.front ∙ Passed-front c.args.text.now front.0 c.lines.rest.now front.1 ∙ sym found.0;
       script = sym found.1;
+      within = subst (λ (xs : List ℕ). length xs ≤ length c.args.text.now) found.1 (script_no_longer c.args.text.now);
     }

@@ -1,0 +1,5 @@
+use Rattle.ppp_cli.proofs.Agreed.{agrees_if_replayed}
+use Rattle.ppp_cli.proofs.run.ppp_run.Goals as goal
+
+pub returns-in-Some-Replay-clause-agreed : goal.returns-in-Some-Replay-clause-agreed
+returns-in-Some-Replay-clause-agreed g c = agrees_if_replayed _ _
