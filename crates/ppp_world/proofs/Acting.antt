@@ -1,9 +1,9 @@
 -- What happens at an end, case by case, and what it leaves alone.
-use Rattle.std.proofs.Common.{◌≡◌, ℕ, suc, ◌+◌, ◌≤◌, ◌<◌, Bool, true, false, List, [], ◌∷◌, ◌++◌, take, length, refl, sym, ◌∙◌, ap, arith}
+use Rattle.std.proofs.Common.{◌≡◌, ℕ, ◌≤◌, List, [], ◌∷◌, ◌++◌, take, length, refl}
 use Rattle.std.specs.Prelude.{Result, Ok, Err, OnOk}
 use Rattle.std.proofs.lemmas.List.{take_all}
 use Rattle.ppp_auto.specs.declared.state.AutoEvent.{AutoEvent}
-use Rattle.ppp_auto.specs.Duet.{Duet, End, Did, Marked, Side, A, B, Happening, Commands, SetsCap, RejectsProtocol, Delivers, Loses, Reboots, at_first, does, takes, happens, turned, without}
+use Rattle.ppp_auto.specs.Duet.{Duet, End, Marked, A, B, Commands, Delivers, Loses, at_first, takes, happens, without}
 use Rattle.ppp_world.specs.declared.step.Happening.TheVariants as what
 use Rattle.ppp_world.specs.declared.step.Happening as kept
 use Rattle.ppp_world.specs.Parties.{commanded}

@@ -1,27 +1,24 @@
 -- What is counted of the packets that a row sends is what the row says.
-use Rattle.std.proofs.Common.{◌≡◌, ℕ, zero, suc, ◌+◌, Bool, true, false, List, [], ◌∷◌, ◌++◌, map, refl, sym, ◌∙◌, ap, arith, append_assoc}
-use Rattle.std.specs.Prelude.{Option, Some, None, ◌||◌, ◌&&◌, not, ◌==◌, if◌then◌else◌, ⊤, nat_le}
+use Rattle.std.proofs.Common.{◌≡◌, ℕ, ◌+◌, true, false, List, [], ◌∷◌, ◌++◌, map, refl, sym, ◌∙◌, ap, arith}
+use Rattle.std.specs.Prelude.{Option, Some, None, ◌&&◌, if◌then◌else◌, ⊤, nat_le}
 use Rattle.std.specs.Option.{option_map, option_and_then, unwrap_or}
 use Rattle.std.proofs.lemmas.List.{append-nil}
-use Rattle.std.proofs.lemmas.Grind.{common_steps}
 use Rattle.std.proofs.lemmas.Bool.Decides.{nat_tests}
-use Rattle.ppp_packet.specs.ConfigOption.{ConfigOption}
 use Rattle.ppp_packet.specs.Packet.{packet_octets, raw_packet_of}
-use Rattle.ppp_packet.specs.Options.{written, options_of}
+use Rattle.ppp_packet.specs.Options.{written}
 use Rattle.ppp_packet.proofs.OptionLemmas.{options_of-written}
 use Rattle.ppp_packet.proofs.PacketLemmas.{raw_packet_of-packet_octets}
 use Rattle.ppp_auto.specs.declared.state.AutoState.{AutoState}
-use Rattle.ppp_auto.specs.declared.state.AutoState.TheVariants.{Initial, Starting, Closed, Stopped, Closing, Stopping, ReqSent, AckRcvd, AckSent, Opened}
 use Rattle.ppp_auto.specs.declared.row.Input.{Input}
 use Rattle.ppp_auto.specs.declared.row.Input.TheVariants as on
 use Rattle.ppp_auto.specs.declared.row.Action.{Action}
 use Rattle.ppp_auto.specs.declared.row.Action.TheVariants.{ThisUp, ThisDown, ThisStarted, ThisFinished, InitRestart, ZeroRestart, SendRequest, RepeatRequest, SendAck, SendNak, SendTerminate, SendTerminateAck, SendCodeReject, SendEchoReply}
-use Rattle.ppp_auto.specs.Automaton.{Auto, Taken, Effect, Sends, Tells, Entry, Send, Signal, entry_of, effects, effect_of, answering, does_row, after, judging, kind, begins_anew}
-use Rattle.ppp_auto.specs.Duet.{Marked, mark_of, marked}
+use Rattle.ppp_auto.specs.Automaton.{Auto, Taken, Effect, Sends, Tells, entry_of, effects, answering, after, judging}
+use Rattle.ppp_auto.specs.Duet.{marked}
 use Rattle.ppp_auto.specs.Packets.{Packet, Request, Ack, Nak, Reject, Other, packet_of, packet_with, octets_of}
 use Rattle.ppp_auto.specs.Rows.{row_of, asks, acks}
 use Rattle.ppp_auto.specs.Table.{Table}
-use Rattle.ppp_world.specs.Frames.{packet_held, HoldsPacket, packets_in, AllHold, counted, requests_after, stamped, is_ack, sends_ack}
+use Rattle.ppp_world.specs.Frames.{packet_held, packets_in, AllHold, requests_after, stamped, sends_ack}
 
 -- the packets among effects
 abbrev pub packets_of : List Effect → List Packet

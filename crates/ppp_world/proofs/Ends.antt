@@ -1,18 +1,17 @@
 -- What an end's code comes to is what the two ends' machine says.
-use Rattle.std.proofs.Common.{◌≡◌, ℕ, Bool, true, false, List, [], ◌∷◌, ◌++◌, refl, sym, ◌∙◌, ap, subst, arith}
-use Rattle.std.specs.Prelude.{Option, Some, None, if◌then◌else◌}
+use Rattle.std.proofs.Common.{◌≡◌, ℕ, Bool, List, refl}
+use Rattle.std.specs.Prelude.{Some, if◌then◌else◌}
 use Rattle.ppp_packet.specs.ConfigOption.{ConfigOption}
 use Rattle.ppp_auto.specs.declared.state.AutoEvent.{AutoEvent}
-use Rattle.ppp_auto.specs.Automaton.{Auto, Acted, Entry, command, take_in, take_octets, take_read, entries_of}
-use Rattle.ppp_auto.specs.Duet.{End, Did, Marked, takes, got_after}
+use Rattle.ppp_auto.specs.Automaton.{Auto, Entry, command, take_in, take_octets, entries_of}
+use Rattle.ppp_auto.specs.Duet.{End, Marked, takes, got_after}
 use Rattle.ppp_auto.specs.Packets.{Packet, Request, Ack, Nak, Reject, Other, packet_of}
 use Rattle.ppp_auto.specs.Table.{Table}
 use Rattle.ppp_world.specs.declared.lcp.LcpTable.{LcpTable}
-use Rattle.ppp_world.specs.Frames.{packets_in, AllHold, posted, requests_after, stamped, sends_ack}
+use Rattle.ppp_world.specs.Frames.{packets_in, AllHold, requests_after, stamped, sends_ack}
 use Rattle.ppp_world.specs.Lcp.{lcp_table}
-use Rattle.ppp_world.specs.LcpSettings.{LcpSettings}
 use Rattle.ppp_world.specs.Parties.{commanded, IsDefault, heard_of}
-use Rattle.ppp_world.specs.Steps.{setup, default_settings}
+use Rattle.ppp_world.specs.Steps.{setup}
 use Rattle.ppp_world.proofs.Posting.{command_posted, command_holds, takes_posted, take_in_holds}
 
 pub default_table : (t : LcpTable) → IsDefault t → lcp_table (record { mru = t.mru; magic = t.magic }) ≡ setup.table

@@ -1,11 +1,11 @@
 -- The packets of an outbox, posted one by one.
 use Rattle.std.proofs.Common.{◌≡◌, ℕ, zero, suc, ◌+◌, ◌≤◌, Bool, true, false, List, [], ◌∷◌, ◌++◌, take, drop, length, refl, sym, ◌∙◌, ap, arith, append_assoc}
-use Rattle.std.specs.Prelude.{Option, Some, None, ◌||◌, slice_get}
+use Rattle.std.specs.Prelude.{Some, ◌||◌, slice_get}
 use Rattle.std.proofs.lemmas.List.{append-nil, take_all}
 use Rattle.ppp_auto.specs.Automaton.{Entry, Send, Signal}
 use Rattle.ppp_auto.specs.Duet.{Marked}
 use Rattle.ppp_auto.specs.Packets.{Packet}
-use Rattle.ppp_world.specs.Frames.{packet_held, HoldsPacket, packets_in, AllHold, counted, requests_after, stamped, is_ack, sends_ack}
+use Rattle.ppp_world.specs.Frames.{packet_held, packets_in, AllHold, counted, requests_after, stamped, is_ack, sends_ack}
 use Rattle.ppp_world.specs.Steps.{queue_room}
 
 pub take-take : {X : Type 0} (n : ℕ) (xs ys : List X) → take n (take n xs ++ ys) ≡ take n (xs ++ ys)

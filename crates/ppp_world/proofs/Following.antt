@@ -1,14 +1,13 @@
 -- A world that takes a script's events one by one follows the run of the events.
 use Rattle.std.proofs.Common.{◌≡◌, ℕ, zero, suc, ◌+◌, List, [], ◌∷◌, ◌++◌, length, refl, sym, ◌∙◌, ap, subst, arith, zero-add, append_assoc}
 use Rattle.std.specs.Prelude.{Option, Some, None, ⊤}
-use Rattle.std.proofs.lemmas.Grind.{common_steps}
 use Rattle.std.proofs.lemmas.List.{append-nil}
 use Rattle.ppp_auto.specs.Duet.{Duet}
 use Rattle.ppp_script.specs.declared.event.Event.{Event}
 use Rattle.ppp_script.specs.declared.event.Event.TheVariants.{Up, Down, AdminOpen, AdminClose, Timeout, Deliver, Lose, Settle, Show}
-use Rattle.ppp_world.specs.Steps.{Step, Happens, Reports, Rests, step_of, next_delivery, Width, wide_of}
-use Rattle.ppp_world.specs.Run.{Moment, moment_of, Place, after_moment, settling, moments_of, place_after, run_from, begun_place, run_of, shown, report, Refused, refusal, refusal_with, before_refusal, kept_with}
-use Rattle.ppp_world.specs.Journal.{Journal, Halt, OutOfMemory, TooWide, begun_journal, written_as, does_step, unless_halted, takes_step, settled, journal_after}
+use Rattle.ppp_world.specs.Steps.{Step, step_of, next_delivery, Width, wide_of}
+use Rattle.ppp_world.specs.Run.{Moment, moment_of, Place, after_moment, settling, moments_of, place_after, run_from, begun_place, run_of, shown, report, refusal, refusal_with, before_refusal, kept_with}
+use Rattle.ppp_world.specs.Journal.{Journal, Halt, TooWide, begun_journal, written_as, unless_halted, takes_step, settled, journal_after}
 use Rattle.ppp_world.specs.Replay.{journal_after_all, halt_of, IsNextAfter, Follows}
 
 -- one moment of a run, as a journal takes it
@@ -142,7 +141,7 @@ run_is (event ∷ events) j =
     let ms = moments_of event (place_of j) in
     let next = takes_moments j ms in
     rw (event_is j event, takes_moments-append j ms (run_from (place_after (place_of j) ms) events))
-        (goes_on next.halt next (journal_after_all next events) (place_after (place_of j) ms) (λ q. run_from q events) refl (λ halt is. halted_all next events halt is) (event_on event j) (run_is events next))
+    (goes_on next.halt next (journal_after_all next events) (place_after (place_of j) ms) (λ q. run_from q events) refl (λ halt is. halted_all next events halt is) (event_on event j) (run_is events next))
 
 -- the moments of a run are numbered in turn
 number_after : ℕ → List Moment → ℕ

@@ -1,23 +1,19 @@
 -- What the two ends' machine makes of an event is what is counted of the packets that the automaton sends.
-use Rattle.std.proofs.Common.{◌≡◌, ℕ, zero, suc, ◌+◌, Bool, true, false, List, [], ◌∷◌, ◌++◌, map, refl, sym, ◌∙◌, ap, arith, append_assoc}
-use Rattle.std.specs.Prelude.{Option, Some, None, ◌||◌, ◌&&◌, not, ◌==◌, if◌then◌else◌, ⊤, nat_le}
-use Rattle.std.proofs.lemmas.Grind.{common_steps}
+use Rattle.std.proofs.Common.{◌≡◌, ℕ, Bool, true, false, List, [], ◌∷◌, refl, arith}
+use Rattle.std.specs.Prelude.{Option, Some, None, if◌then◌else◌, ⊤}
 use Rattle.std.proofs.lemmas.Bool.Decides.{nat_tests}
 use Rattle.ppp_packet.specs.ConfigOption.{ConfigOption}
-use Rattle.ppp_auto.specs.declared.verdict.Verdict.{Verdict}
-use Rattle.ppp_auto.specs.declared.state.AutoState.{AutoState}
 use Rattle.ppp_auto.specs.declared.state.AutoEvent.{AutoEvent}
-use Rattle.ppp_auto.specs.declared.state.AutoEvent.TheVariants as event
 use Rattle.ppp_auto.specs.declared.row.Input.{Input}
 use Rattle.ppp_auto.specs.declared.row.Input.TheVariants as on
-use Rattle.ppp_auto.specs.Automaton.{Auto, Taken, taken_as, request_taken, nak_taken, Acted, acts_on, take_in, command, input_of, Effect, Entry, entries_of, does_row, after, judging, kind, effects, echo_answer, extended_taken, unknown_taken}
-use Rattle.ppp_auto.specs.Duet.{End, Did, Setup, Marked, does, does_if, takes, got_after}
-use Rattle.ppp_auto.specs.Judging.{Reply, reply_to, reply_with, reply_to_known}
+use Rattle.ppp_auto.specs.Automaton.{Auto, Taken, taken_as, request_taken, nak_taken, acts_on, take_in, command, input_of, entries_of, does_row, after, judging, kind, effects}
+use Rattle.ppp_auto.specs.Duet.{End, Setup, Marked, does, does_if, takes, got_after}
+use Rattle.ppp_auto.specs.Judging.{reply_with}
 use Rattle.ppp_auto.specs.Packets.{Packet, Request, Ack, Nak, Reject, Other}
-use Rattle.ppp_auto.specs.Rows.{row_of, asks, acks}
+use Rattle.ppp_auto.specs.Rows.{row_of, acks}
 use Rattle.ppp_auto.specs.Table.{Table}
-use Rattle.ppp_world.specs.Frames.{packets_in, AllHold, posted, requests_after, stamped, sends_ack}
-use Rattle.ppp_world.proofs.Counting.{Fits, packets_of, requests_in_row, stamped_in_row, acks_in_row, judged_in_row, proper_answer, proper_in_row, packets_in-entries, AllHold-entries, AllProper}
+use Rattle.ppp_world.specs.Frames.{packets_in, AllHold, posted}
+use Rattle.ppp_world.proofs.Counting.{Fits, requests_in_row, stamped_in_row, acks_in_row, judged_in_row, proper_answer, proper_in_row, packets_in-entries, AllHold-entries}
 
 -- what a packet is, it is answered accordingly, and a good request keeps the own list
 pub record IsFit (a : Auto) (input : Input) (taken : Taken) : Type 0 where

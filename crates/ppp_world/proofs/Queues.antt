@@ -1,9 +1,7 @@
 -- Facts on queues as lists.
-use Rattle.std.proofs.Common.{◌≡◌, ℕ, zero, suc, ◌+◌, ◌-◌, ◌<◌, ◌≤◌, List, [], ◌∷◌, ◌++◌, length, take, drop, min, refl, sym, ◌∙◌, ap, arith, append_assoc, length-append, get_or}
-use Rattle.std.specs.Prelude.{Option, Some, None}
+use Rattle.std.proofs.Common.{◌≡◌, ℕ, zero, suc, ◌-◌, ◌<◌, ◌≤◌, List, [], ◌∷◌, ◌++◌, length, take, drop, min, refl, sym, ap, arith, length-append}
 use Rattle.std.specs.List.{remove}
 use Rattle.std.proofs.lemmas.List.{take_at, take_all}
-use Rattle.std.proofs.Math.Seq.{drop-cons}
 use Rattle.ppp_auto.specs.Duet.{Marked, without, least, requests, answers, request_mark, answer_mark}
 
 pub full : {X : Type 0} (room : ℕ) (xs ys : List X) → length xs ≤ room → room ≤ length xs → xs ≡ take room (xs ++ ys)

@@ -1,5 +1,5 @@
 -- The replay of a script, event by event.
-use Rattle.std.proofs.Common.{◌≡◌, ℕ, zero, suc, ◌+◌, ◌-◌, ◌<◌, ◌≤◌, List, [], ◌∷◌, ◌++◌, drop, length, refl, sym, ◌∙◌, ap, arith}
+use Rattle.std.proofs.Common.{◌≡◌, ℕ, ◌+◌, ◌≤◌, List, [], ◌∷◌, refl, sym, ◌∙◌, ap, arith}
 use Rattle.std.specs.Prelude.{Option, Some, None, Result, Ok, Err, IfOk, option_map, IsSome}
 use Rattle.std.proofs.lemmas.List.Sums.{sum_by-cons}
 use Rattle.ppp_script.specs.declared.event.Event.{Event}
@@ -10,9 +10,9 @@ use Rattle.ppp_world.specs.declared.fault.WorldFault.TheVariants as fault
 use Rattle.ppp_world.specs.declared.replaying.Refusal.{Refusal}
 use Rattle.ppp_world.specs.Halts.{answer_of, UnlessMemory, lcp_protocol}
 use Rattle.ppp_world.specs.Journal.{Journal, Halt, OutOfMemory, TooWide, begun_journal, journal_after}
-use Rattle.ppp_world.specs.Replay.{journal_after_all, Follows, halt_of, replay_of, IsNextAfter}
+use Rattle.ppp_world.specs.Replay.{journal_after_all, halt_of, replay_of, IsNextAfter}
 use Rattle.ppp_world.specs.Replays.{refusal_of, refusal_in}
-use Rattle.ppp_world.specs.Run.{Moment, run_of, report, Refused, refusal, before_refusal}
+use Rattle.ppp_world.specs.Run.{run_of, report, Refused, refusal}
 use Rattle.ppp_world.specs.Steps.{Width}
 use Rattle.ppp_world.proofs.Following.{follows, halted_all, before_refusal-none}
 

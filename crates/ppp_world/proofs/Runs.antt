@@ -1,18 +1,18 @@
 -- Runs that were worked out by hand.
-use Rattle.std.proofs.Common.{◌≡◌, ℕ, zero, suc, List, [], ◌∷◌, ◌++◌, refl, Bool, true, false}
-use Rattle.std.specs.Prelude.{codes, Some, None, Option}
-use Rattle.std.specs.Fmt.{decimal, digits}
+use Rattle.std.proofs.Common.{◌≡◌, ℕ, zero, suc, List, [], ◌∷◌, ◌++◌, refl}
+use Rattle.std.specs.Prelude.{codes, Some, None}
+use Rattle.std.specs.Fmt.{digits}
 use Rattle.hex.proofs.OnLiterals.{hex_on_literals}
 use Rattle.ppp_auto.specs.Duet.{at_first, does, takes}
 use Rattle.ppp_auto.specs.Automaton.{does_row}
 use Rattle.ppp_packet.specs.declared.protocol.Proto.TheVariants.{Lcp}
 use Rattle.ppp_script.specs.declared.event.End.TheVariants.{A, B}
 use Rattle.ppp_script.specs.declared.event.Event.{Event}
-use Rattle.ppp_script.specs.declared.event.Event.TheVariants.{Up, Down, AdminOpen, AdminClose, Timeout, Deliver, Lose, Settle, Show}
+use Rattle.ppp_script.specs.declared.event.Event.TheVariants.{Up, Down, AdminOpen, Timeout, Deliver, Show}
 use Rattle.ppp_world.specs.Lcp.{pick}
 use Rattle.ppp_world.specs.Steps.{within_room}
 use Rattle.ppp_world.specs.Texts.{states_text, lists_text, agreement_text}
-use Rattle.ppp_world.specs.Run.{run_of, report, Refused, refusal, before_refusal}
+use Rattle.ppp_world.specs.Run.{run_of, report, refusal}
 
 abbrev opened : List Event
 opened = Up A 1 ∷ AdminOpen A 1 Lcp ∷ Up B 1 ∷ AdminOpen B 1 Lcp ∷ Deliver B 1 ∷ Deliver A 1 ∷ Deliver A 1 ∷ Deliver B 1 ∷ []

@@ -1,11 +1,11 @@
 -- What one step of a world comes to, as its code does it.
-use Rattle.std.proofs.Common.{◌≡◌, ℕ, zero, suc, ◌+◌, ◌-◌, ◌<◌, ◌≤◌, Bool, true, false, List, [], ◌∷◌, ◌++◌, refl, sym, ◌∙◌, ap, arith}
-use Rattle.std.specs.Prelude.{Option, Some, None, if◌then◌else◌, nat_lt, IsSome, is_some, IsTrue, ◌↔◌}
+use Rattle.std.proofs.Common.{◌≡◌, ℕ, suc, ◌+◌, ◌-◌, ◌<◌, ◌≤◌, Bool, true, false, List, [], ◌∷◌, ◌++◌, refl, sym, ◌∙◌, arith}
+use Rattle.std.specs.Prelude.{Option, Some, None, if◌then◌else◌, IsSome, is_some, IsTrue, ◌↔◌}
 use Rattle.std.proofs.lemmas.Bool.{lt-ltb, le-ltb}
 use Rattle.ppp_packet.specs.ConfigOption.{ConfigOption}
 use Rattle.ppp_auto.specs.Automaton.{Taken, kind}
 use Rattle.ppp_auto.specs.declared.row.Input.{Input}
-use Rattle.ppp_auto.specs.Duet.{Duet, End, Marked, Did, Setup, Side, A, B, Happening, at_first, does, does_if, takes, happens, got_after, delivers, turned, least, requests, answers}
+use Rattle.ppp_auto.specs.Duet.{Duet, End, Marked, Setup, at_first, does, does_if, takes, happens, got_after, delivers, turned, least, requests, answers}
 use Rattle.ppp_auto.specs.Judging.{same_list}
 use Rattle.ppp_auto.specs.Rows.{row_of, asks}
 use Rattle.ppp_script.specs.declared.event.End as ends
@@ -21,7 +21,7 @@ use Rattle.ppp_world.specs.declared.fault.Halt as kept_halts
 use Rattle.ppp_world.specs.Halts.{IsCounted, UnlessMemory, kept_halt}
 use Rattle.ppp_world.specs.Journal.{Journal, Halt, OutOfMemory, TooWide, takes_step, does_step, settled, journal_after}
 use Rattle.ppp_world.specs.StepViews.{happening_seen, step_seen}
-use Rattle.ppp_world.specs.Steps.{Step, setup, side_of, moved, within_room, too_wide, Width, step_of, next_delivery}
+use Rattle.ppp_world.specs.Steps.{Step, setup, side_of, moved, within_room, too_wide, step_of, next_delivery}
 use Rattle.ppp_world.proofs.Following.{halted_step}
 use Rattle.ppp_world.proofs.LcpAgree.{same_list-if, same_list-only}
 use Rattle.ppp_world.proofs.Queues.{least-append}
@@ -153,7 +153,7 @@ settles_next count i first now next below done stays steps far =
     let left : count - i ≡ suc (count - (i + 1)) = omega arith in
     record {
       done = unless_both next.halt (unless_later now.halt now next (settled count first ≡ settled (count - i) now) refl stays far.done) done
-        (λ before one. before ∙ (rw (left, one) refl));
+          (λ before one. before ∙ (rw (left, one) refl));
       halted = λ some. let same : now ≡ first = far.halted some in stays (rw same some) ∙ same;
       steps = omega (arith, far.steps, steps);
     }

@@ -1,5 +1,5 @@
 -- Frames in octets, and what a world counts of the packets that an end sends.
-use Rattle.std.specs.Prelude.{◌≡◌, ℕ, ◌+◌, Bool, true, false, ◌||◌, if◌then◌else◌, List, [], ◌∷◌, ◌++◌, take, Option, Some, None}
+use Rattle.std.specs.Prelude.{◌≡◌, ℕ, ◌+◌, Bool, true, false, ◌||◌, if◌then◌else◌, List, [], ◌∷◌, Some}
 use Rattle.std.specs.Option.{unwrap_or}
 use Rattle.ppp_auto.specs.Automaton.{Auto, Entry, Send, Signal}
 use Rattle.ppp_auto.specs.Duet.{Marked, mark_of, End, Did}

@@ -1,9 +1,9 @@
 -- A world as its calls see it: the state, the steps done, the report so far, and why it takes no further step.
-use Rattle.std.specs.Prelude.{◌≡◌, ℕ, zero, suc, ◌+◌, List, [], ◌∷◌, ◌++◌, Option, Some, None, Result, Ok, Err}
+use Rattle.std.specs.Prelude.{ℕ, zero, suc, ◌+◌, List, [], ◌++◌, Option, Some, None}
 use Rattle.ppp_auto.specs.Duet.{Duet, start}
 use Rattle.ppp_script.specs.declared.event.Event.{Event}
 use Rattle.ppp_script.specs.declared.event.Event.TheVariants.{Settle}
-use Rattle.ppp_world.specs.Steps.{Step, setup, step_of, next_delivery, moved, Width, wide_of}
+use Rattle.ppp_world.specs.Steps.{Step, setup, step_of, next_delivery, Width, wide_of}
 use Rattle.ppp_world.specs.Run.{moment_of, shown}
 
 -- want of memory, or a step that would make a span too wide

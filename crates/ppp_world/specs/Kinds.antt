@@ -1,5 +1,4 @@
 -- The kinds of packets that a world tells apart.
-use Rattle.std.specs.Prelude.{ℕ}
 use Rattle.ppp_auto.specs.Packets.{Packet, Request, Ack, Nak, Reject, Other}
 use Rattle.ppp_world.specs.declared.frame.PacketKind.{PacketKind}
 use Rattle.ppp_world.specs.declared.frame.PacketKind.TheVariants as of

@@ -1,9 +1,8 @@
 -- What a replay of a script's events comes to.
 use Rattle.std.specs.Prelude.{◌≡◌, ℕ, ◌+◌, List, [], ◌∷◌, length, Option, Some, None}
-use Rattle.std.specs.Option.{option_map}
 use Rattle.ppp_script.specs.declared.event.Event.{Event}
 use Rattle.ppp_world.specs.Run.{Moment, run_of, report, Refused, refusal, before_refusal}
-use Rattle.ppp_world.specs.Journal.{Journal, Halt, OutOfMemory, TooWide, journal_after, begun_journal}
+use Rattle.ppp_world.specs.Journal.{Journal, Halt, TooWide, journal_after}
 
 -- the journal after some events
 abbrev pub journal_after_all : Journal → List Event → Journal

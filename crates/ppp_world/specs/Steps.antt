@@ -1,7 +1,7 @@
 -- What a step of a script does to the two ends and the queues between them. A world has one link with one protocol,
 -- LCP, so its state is the duet of that, and each step is one of the duet's events, after which the frames that found
 -- a queue full are lost.
-use Rattle.std.specs.Prelude.{◌≡◌, ℕ, zero, suc, ◌+◌, ◌*◌, ◌-◌, Bool, true, false, ◌==◌, nat_lt, if◌then◌else◌, List, [], ◌∷◌, ◌++◌, take, Option, Some, None}
+use Rattle.std.specs.Prelude.{ℕ, ◌+◌, ◌*◌, true, ◌==◌, nat_lt, if◌then◌else◌, List, [], ◌∷◌, ◌++◌, take, Option, Some, None}
 use Rattle.ppp_auto.specs.declared.state.AutoEvent.TheVariants as event
 use Rattle.ppp_auto.specs.Duet.{Duet, Setup, Side, Happening, Commands, Delivers, Loses, Marked, happens, start, span_of, least, requests, answers, widest}
 use Rattle.ppp_auto.specs.Duet as side

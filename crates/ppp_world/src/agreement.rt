@@ -92,7 +92,10 @@ fn is_allowed(own: &OptList, theirs: &OptList) -> bool
     let mut magics = false;
     let mut left = theirs.options();
     while let Some((option, behind)) = left.split_first() {
-        if !is_fine(magic, option) || (option.kind == MRU && units) || (option.kind == MAGIC && magics) {
+        if !is_fine(magic, option)
+            || (option.kind == MRU && units)
+            || (option.kind == MAGIC && magics)
+        {
             return false;
         }
         units = units || option.kind == MRU;

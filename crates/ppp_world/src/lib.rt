@@ -15,8 +15,11 @@ mod two_ends;
 mod world;
 
 pub use fault::WorldFault;
+pub use ppp_auto::Memory;
 pub use replaying::{Refusal, Replayed, replay};
 pub use world::World;
 
 #[cfg(test)]
 mod lcp_tests;
+#[cfg(test)]
+mod world_tests;

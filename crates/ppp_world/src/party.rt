@@ -58,7 +58,14 @@ impl Party {
     }
 
     /// What happens at the end without a packet. What it sends is put into the queue.
-    pub(crate) fn command(&mut self, event: AutoEvent, word: u64, out: &mut Outbox, queue: &mut Queue, alloc: Global) -> Result<(), Memory>
+    pub(crate) fn command(
+        &mut self,
+        event: AutoEvent,
+        word: u64,
+        out: &mut Outbox,
+        queue: &mut Queue,
+        alloc: Global,
+    ) -> Result<(), Memory>
         requires few { self.old.n < 2 ^ 63 }
         requires room { length queue.old ≤ queue_room }
         ensures end { OnOk result (self.new ≡ (commanded self.old event word).end) }
@@ -73,7 +80,14 @@ impl Party {
     }
 
     /// Takes a frame in. What the end sends is put into the queue.
-    pub(crate) fn take(&mut self, frame: &Frame, word: u64, out: &mut Outbox, queue: &mut Queue, alloc: Global) -> Result<(), Memory>
+    pub(crate) fn take(
+        &mut self,
+        frame: &Frame,
+        word: u64,
+        out: &mut Outbox,
+        queue: &mut Queue,
+        alloc: Global,
+    ) -> Result<(), Memory>
         requires few { self.old.n < 2 ^ 63 }
         requires room { length queue.old ≤ queue_room }
         ensures end { OnOk result (self.new ≡ (takes setup self.old frame.now word).end) }
@@ -159,7 +173,13 @@ struct Posted {
 }
 
 /// Puts the packets of an outbox into a queue, after so many Configure-Requests, as answers to the packet of that mark.
-fn post(out: &Outbox, sent: u64, mark: u64, queue: &mut Queue, alloc: Global) -> Result<Posted, Memory>
+fn post(
+    out: &Outbox,
+    sent: u64,
+    mark: u64,
+    queue: &mut Queue,
+    alloc: Global,
+) -> Result<Posted, Memory>
     requires held { AllHold out.now }
     requires few { sent < 2 ^ 63 }
     requires room { length queue.old ≤ queue_room }
@@ -176,7 +196,13 @@ fn post(out: &Outbox, sent: u64, mark: u64, queue: &mut Queue, alloc: Global) ->
 }
 
 /// Puts an entry of an outbox into a queue, if it is a packet.
-fn post_entry(entry: EntryRef<'_>, posted: Posted, mark: u64, queue: &mut Queue, alloc: Global) -> Result<Posted, Memory>
+fn post_entry(
+    entry: EntryRef<'_>,
+    posted: Posted,
+    mark: u64,
+    queue: &mut Queue,
+    alloc: Global,
+) -> Result<Posted, Memory>
     requires held { AllHold (entry_lent entry ∷ []) }
     requires few { posted.sent + 1 < 2 ^ 64 }
     requires room { length queue.old ≤ queue_room }
@@ -192,7 +218,13 @@ fn post_entry(entry: EntryRef<'_>, posted: Posted, mark: u64, queue: &mut Queue,
 }
 
 /// Puts a packet into a queue.
-fn post_packet(octets: &[u8], posted: Posted, mark: u64, queue: &mut Queue, alloc: Global) -> Result<Posted, Memory>
+fn post_packet(
+    octets: &[u8],
+    posted: Posted,
+    mark: u64,
+    queue: &mut Queue,
+    alloc: Global,
+) -> Result<Posted, Memory>
     requires held { HoldsPacket octets.now }
     requires few { posted.sent + 1 < 2 ^ 64 }
     requires room { length queue.old ≤ queue_room }

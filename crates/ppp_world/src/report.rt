@@ -12,7 +12,12 @@ use ppp_packet::OptList;
 use std::alloc::Global;
 
 /// Writes the block of a `show` at a step.
-pub(crate) fn write_show(report: &mut Vec<u8>, number: u32, ends: &TwoEnds, alloc: Global) -> Result<(), Memory>
+pub(crate) fn write_show(
+    report: &mut Vec<u8>,
+    number: u32,
+    ends: &TwoEnds,
+    alloc: Global,
+) -> Result<(), Memory>
     ensures { OnOk result (report.new.items ≡ report.old.items ++ show_block number ends.now) }
 {
     put(report, "show ")?;
@@ -94,7 +99,9 @@ fn put_number(report: &mut Vec<u8>, number: u32, alloc: Global) -> Result<(), Me
 fn put(report: &mut Vec<u8>, text: &str) -> Result<(), Memory>
     ensures { OnOk result (report.new.items ≡ report.old.items ++ text.now) }
 {
-    report.extend_from_slice(text.as_bytes()).map_err(|_| Memory)
+    report
+        .extend_from_slice(text.as_bytes())
+        .map_err(|_| Memory)
 }
 
 /// A state's name.

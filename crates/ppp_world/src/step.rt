@@ -41,11 +41,26 @@ impl Step {
         match *event {
             Event::Up(end, link) => on_line(link, command(end, AutoEvent::Up)),
             Event::Down(end, link) => on_line(link, command(end, AutoEvent::Down)),
-            Event::AdminOpen(end, link, proto) => on_protocol(link, proto, command(end, AutoEvent::AdminOpen)),
-            Event::AdminClose(end, link, proto) => on_protocol(link, proto, command(end, AutoEvent::AdminClose)),
-            Event::Timeout(end, link, proto) => on_protocol(link, proto, command(end, AutoEvent::Timeout)),
+            Event::AdminOpen(end, link, proto) => on_protocol(
+                link,
+                proto,
+                command(end, AutoEvent::AdminOpen),
+            ),
+            Event::AdminClose(end, link, proto) => on_protocol(
+                link,
+                proto,
+                command(end, AutoEvent::AdminClose),
+            ),
+            Event::Timeout(end, link, proto) => on_protocol(
+                link,
+                proto,
+                command(end, AutoEvent::Timeout),
+            ),
             Event::Deliver(end, link) => on_line(link, Step::Happens(end, Happening::Deliver)),
-            Event::Lose(end, link, place) => on_line(link, Step::Happens(end, Happening::Lose(place))),
+            Event::Lose(end, link, place) => on_line(
+                link,
+                Step::Happens(end, Happening::Lose(place)),
+            ),
             Event::Settle(_) => Step::Rests,
             Event::Show => Step::Reports,
         }

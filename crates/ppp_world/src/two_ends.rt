@@ -73,8 +73,24 @@ impl TwoEnds {
         ensures { OnOk result (self.new ≡ within_room (happens setup setup self.old (record { side = side_of at; what = happening_seen what; word = word }))) }
     {
         match at {
-            End::A => act(&mut self.a, &mut self.to_a, &mut self.to_b, what, word, &mut self.out, self.alloc),
-            End::B => act(&mut self.b, &mut self.to_b, &mut self.to_a, what, word, &mut self.out, self.alloc),
+            End::A => act(
+                &mut self.a,
+                &mut self.to_a,
+                &mut self.to_b,
+                what,
+                word,
+                &mut self.out,
+                self.alloc,
+            ),
+            End::B => act(
+                &mut self.b,
+                &mut self.to_b,
+                &mut self.to_a,
+                what,
+                word,
+                &mut self.out,
+                self.alloc,
+            ),
         }
     }
 
@@ -117,7 +133,15 @@ impl TwoEnds {
 }
 
 /// Something happens at an end: frames are taken from the one queue, and what is sent is put into the other.
-fn act(party: &mut Party, incoming: &mut Queue, outgoing: &mut Queue, what: Happening, word: u64, out: &mut Outbox, alloc: Global) -> Result<(), Memory>
+fn act(
+    party: &mut Party,
+    incoming: &mut Queue,
+    outgoing: &mut Queue,
+    what: Happening,
+    word: u64,
+    out: &mut Outbox,
+    alloc: Global,
+) -> Result<(), Memory>
     requires few { party.old.n < 2 ^ 63 }
     requires room_in { length incoming.old ≤ queue_room }
     requires room_out { length outgoing.old ≤ queue_room }

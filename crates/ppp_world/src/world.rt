@@ -117,7 +117,13 @@ impl World {
         if self.halt.is_some() {
             return;
         }
-        match go(&mut self.ends, &mut self.steps, &mut self.report, step, self.alloc) {
+        match go(
+            &mut self.ends,
+            &mut self.steps,
+            &mut self.report,
+            step,
+            self.alloc,
+        ) {
             Ok(()) => {}
             Err(halt) => self.halt = Some(halt),
         }
@@ -125,7 +131,13 @@ impl World {
 }
 
 /// Does a step, counts it and writes its report.
-fn go(ends: &mut TwoEnds, steps: &mut u32, report: &mut Vec<u8>, step: Step, alloc: Global) -> Result<(), Halt>
+fn go(
+    ends: &mut TwoEnds,
+    steps: &mut u32,
+    report: &mut Vec<u8>,
+    step: Step,
+    alloc: Global,
+) -> Result<(), Halt>
     requires counted { IsCounted ends.old steps.old }
     requires few { steps.old + 1 ≤ 100000 }
     ensures done { UnlessMemory (halt_in result) (record { duet = ends.new; steps = steps.new; report = report.new.items; halt = halt_in result } ≡ does_step (record { duet = ends.old; steps = steps.old; report = report.old.items; halt = None }) (step_seen step)) }
@@ -170,7 +182,13 @@ fn word_at(at: End, number: u32) -> u64
 }
 
 /// Writes what is reported after the step of that number.
-fn show(report: &mut Vec<u8>, number: u32, step: Step, ends: &TwoEnds, alloc: Global) -> Result<(), Memory>
+fn show(
+    report: &mut Vec<u8>,
+    number: u32,
+    step: Step,
+    ends: &TwoEnds,
+    alloc: Global,
+) -> Result<(), Memory>
     ensures { OnOk result (report.new.items ≡ report.old.items ++ shown (record { number = number; step = step_seen step; after = ends.now }) (step_seen step)) }
 {
     match step {

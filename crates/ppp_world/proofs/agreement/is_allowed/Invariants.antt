@@ -1,4 +1,4 @@
-use Rattle.std.proofs.Common.{◌≡◌, length}
+use Rattle.std.proofs.Common.{length}
 use Rattle.ppp_world.proofs.Allowing.{IsAllowedSoFar}
 use Rattle.ppp_world.proofs.agreement.is_allowed.Given as goal
 

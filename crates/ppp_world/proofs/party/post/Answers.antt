@@ -1,8 +1,6 @@
-use Rattle.std.proofs.Common.{◌≡◌, ℕ, suc, ◌+◌, ◌≤◌, [], ◌∷◌, drop, length, sym, ◌∙◌, subst, List, arith, add-one}
-use Rattle.ppp_auto.specs.Automaton.{Entry}
+use Rattle.std.proofs.Common.{◌≡◌, suc, [], ◌∷◌, drop, arith, add-one}
 use Rattle.ppp_auto.specs.Entries.{entry_lent}
-use Rattle.ppp_world.specs.Frames.{requests_after, packets_in}
-use Rattle.ppp_world.proofs.Entries.{Left, left-first, left-next, first-holds, drop-get, counted-le, left-none-queue, few-taken, drop-past}
+use Rattle.ppp_world.proofs.Entries.{left-next, first-holds, drop-get, counted-le, left-none-queue, few-taken, drop-past}
 use Rattle.ppp_world.proofs.party.post.Goals as goal
 
 pub post_entry-requires-clause-held : goal.post_entry-requires-clause-held

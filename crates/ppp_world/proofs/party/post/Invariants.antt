@@ -1,4 +1,4 @@
-use Rattle.std.proofs.Common.{◌≡◌, ◌+◌, ◌≤◌, drop, length}
+use Rattle.std.proofs.Common.{◌+◌, ◌≤◌, drop, length}
 use Rattle.ppp_world.specs.Steps.{queue_room}
 use Rattle.ppp_world.proofs.Entries.{Left}
 use Rattle.ppp_world.proofs.party.post.Given as goal

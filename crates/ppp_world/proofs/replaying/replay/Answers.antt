@@ -1,7 +1,6 @@
-use Rattle.std.proofs.Common.{◌≡◌, ℕ, suc, ◌+◌, [], ◌∷◌, drop, List, sym, ◌∙◌, arith, add-one}
-use Rattle.ppp_script.specs.declared.event.Event.{Event}
+use Rattle.std.proofs.Common.{◌≡◌, suc, [], ◌∷◌, drop, ◌∙◌, arith, add-one}
 use Rattle.ppp_world.proofs.Entries.{drop-get, drop-past}
-use Rattle.ppp_world.proofs.Replays.{ReplaysOn, replays_room, replays_next, replays_all, replays_stopped, if_ok_all, none_is}
+use Rattle.ppp_world.proofs.Replays.{replays_room, replays_next, replays_all, replays_stopped, if_ok_all, none_is}
 use Rattle.ppp_world.proofs.replaying.replay.Goals as goal
 
 pub step-requires : goal.step-requires
@@ -24,18 +23,18 @@ pub returns-in-Err-clause-report : goal.returns-in-Err-clause-report
 returns-in-Err-clause-report c =
     let front : drop c.loop-i.i c.args.script.now ≡ c.at.result.now ∷ drop (suc c.loop-i.i) c.args.script.now = drop-get c.args.script.now c.loop-i.i c.at.result.now c.at.ensures.event in
     if_ok_all c.stopped.result c.stopped.ensures.report c.stopped.ensures.refused c.stopped.ensures.some
-        (λ replayed told refused some. told ∙ (replays_stopped c.args.script.now c.loop-i.world c.step.new.self (drop c.loop-i.i c.args.script.now) (drop (suc c.loop-i.i) c.args.script.now) c.at.result.now c.step.result c.in-Err.fault replayed.refused front c.step.ensures.answer c.in-Err.is c.step.ensures.done c.loop-i.invariant refused some).0)
+    (λ replayed told refused some. told ∙ (replays_stopped c.args.script.now c.loop-i.world c.step.new.self (drop c.loop-i.i c.args.script.now) (drop (suc c.loop-i.i) c.args.script.now) c.at.result.now c.step.result c.in-Err.fault replayed.refused front c.step.ensures.answer c.in-Err.is c.step.ensures.done c.loop-i.invariant refused some).0)
 
 pub returns-in-Err-clause-refused : goal.returns-in-Err-clause-refused
 returns-in-Err-clause-refused c =
     let front : drop c.loop-i.i c.args.script.now ≡ c.at.result.now ∷ drop (suc c.loop-i.i) c.args.script.now = drop-get c.args.script.now c.loop-i.i c.at.result.now c.at.ensures.event in
     if_ok_all c.stopped.result c.stopped.ensures.report c.stopped.ensures.refused c.stopped.ensures.some
-        (λ replayed told refused some. (replays_stopped c.args.script.now c.loop-i.world c.step.new.self (drop c.loop-i.i c.args.script.now) (drop (suc c.loop-i.i) c.args.script.now) c.at.result.now c.step.result c.in-Err.fault replayed.refused front c.step.ensures.answer c.in-Err.is c.step.ensures.done c.loop-i.invariant refused some).1)
+    (λ replayed told refused some. (replays_stopped c.args.script.now c.loop-i.world c.step.new.self (drop c.loop-i.i c.args.script.now) (drop (suc c.loop-i.i) c.args.script.now) c.at.result.now c.step.result c.in-Err.fault replayed.refused front c.step.ensures.answer c.in-Err.is c.step.ensures.done c.loop-i.invariant refused some).1)
 
 pub returns-in-Err-clause-whole : goal.returns-in-Err-clause-whole
 returns-in-Err-clause-whole c =
     if_ok_all c.stopped.result c.stopped.ensures.report c.stopped.ensures.refused c.stopped.ensures.some
-        (λ replayed told refused some. λ none. absurd (none_is replayed.refused some none))
+    (λ replayed told refused some. λ none. absurd (none_is replayed.refused some none))
 
 pub returns-clause-report : goal.returns-clause-report
 returns-clause-report c =

@@ -1,4 +1,4 @@
-use Rattle.std.proofs.Common.{◌≡◌, ◌≤◌, length, refl, sym, arith}
+use Rattle.std.proofs.Common.{refl, sym, arith}
 use Rattle.std.proofs.lemmas.List.{take_all}
 use Rattle.ppp_world.specs.Steps.{queue_room}
 use Rattle.ppp_world.proofs.Acting.{acted_command, acted_deliver, acted_nothing, acted_lose, always}

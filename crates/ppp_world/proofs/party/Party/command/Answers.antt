@@ -1,4 +1,4 @@
-use Rattle.std.proofs.Common.{◌≡◌, sym, ◌∙◌, if◌then◌else◌}
+use Rattle.std.proofs.Common.{◌≡◌, if◌then◌else◌}
 use Rattle.ppp_world.proofs.Ends.{commanded-holds, commanded-end, commanded-sent}
 use Rattle.ppp_world.proofs.party.Party.command.Goals as goal
 

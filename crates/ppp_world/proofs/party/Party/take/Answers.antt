@@ -1,4 +1,4 @@
-use Rattle.std.proofs.Common.{◌≡◌, sym, ◌∙◌, if◌then◌else◌}
+use Rattle.std.proofs.Common.{◌≡◌, if◌then◌else◌}
 use Rattle.ppp_world.specs.Parties.{heard_of}
 use Rattle.ppp_world.proofs.Ends.{taken-holds, taken-end, taken-sent}
 use Rattle.ppp_world.proofs.party.Party.take.Goals as goal

@@ -1,4 +1,4 @@
-use Rattle.std.proofs.Common.{◌≡◌, ℕ, suc, ◌+◌, ◌<◌, ◌∷◌, drop, length, sym, ◌∙◌, ap, arith, add-one}
+use Rattle.std.proofs.Common.{◌≡◌, suc, ◌<◌, ◌∷◌, drop, length, sym, ◌∙◌, ap, arith, add-one}
 use Rattle.std.proofs.Math.Seq.{drop-cons}
 use Rattle.ppp_auto.specs.Duet.{Marked}
 use Rattle.ppp_world.proofs.Queues.{least-request-next}

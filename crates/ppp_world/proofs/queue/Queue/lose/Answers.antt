@@ -1,4 +1,4 @@
-use Rattle.std.proofs.Common.{◌≡◌, ℕ, arith, sym}
+use Rattle.std.proofs.Common.{arith, sym}
 use Rattle.ppp_world.proofs.Queues.{without-none, without-place, without-beyond}
 use Rattle.ppp_world.proofs.queue.Queue.lose.Goals as goal
 

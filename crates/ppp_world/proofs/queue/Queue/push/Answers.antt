@@ -1,4 +1,4 @@
-use Rattle.std.proofs.Common.{◌≡◌, ℕ, ◌<◌, length, arith}
+use Rattle.std.proofs.Common.{◌<◌, length, arith}
 use Rattle.ppp_world.proofs.Queues.{full, roomy}
 use Rattle.ppp_world.proofs.queue.Queue.push.Goals as goal
 

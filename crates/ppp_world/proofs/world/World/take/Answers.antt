@@ -1,4 +1,4 @@
-use Rattle.std.proofs.Common.{◌≡◌, sym, None}
+use Rattle.std.proofs.Common.{◌≡◌, None}
 use Rattle.ppp_world.specs.StepViews.{step_seen}
 use Rattle.ppp_world.proofs.Stepping.{halted_done, takes_open, halted_kept, none_kept}
 use Rattle.ppp_world.proofs.world.World.take.Goals as goal
