@@ -16,8 +16,8 @@ use Rattle.ppp_world.specs.LcpLawful.{lcp_lawful}
 use Rattle.ppp_world.specs.LcpSettings.{IsRanged}
 use Rattle.ppp_world.specs.Steps.{Step, Happens, Reports, Rests, setup, default_settings, word_of, moved, next_delivery, within_room, queue_room, Width, too_wide, or_else, wide_of}
 use Rattle.ppp_world.specs.Agreed.{AgreesIfOpened, EachAgrees, NoneDisagrees}
-use Rattle.ppp_world.specs.Journal.{Journal, Halt, begun_journal, written_as, does_step, unless_halted, takes_step}
-use Rattle.ppp_world.specs.Run.{shown, Moment, moment_of, Place, after_moment, settling, moments_of, place_after, run_from, begun_place, run_of, before_refusal, kept_with}
+use Rattle.ppp_world.specs.Led.{IsLed}
+use Rattle.ppp_world.specs.Run.{Moment, moment_of, Place, after_moment, settling, moments_of, place_after, run_from, begun_place, run_of, before_refusal, kept_with}
 use Rattle.ppp_world.specs.Texts.{agrees, agree_of}
 use Rattle.ppp_world.proofs.LcpAgree.{agrees-if}
 use Rattle.ppp_script.specs.declared.event.End.{End}
@@ -205,25 +205,12 @@ pub none_disagrees : (ms : List Moment) → EachAgrees ms → NoneDisagrees ms
 none_disagrees [] h = tt
 none_disagrees (m ∷ ms) h = (never_disagrees m.after h.0, none_disagrees ms h.1)
 
--- What a world keeps: the events of its steps lead to its state, and no span is too wide unless it has halted.
-pub record IsSound (j : Journal) : Type 0 where
-  pub reached : Reached setup setup j.duet
-  pub narrow : j.halt ≡ None → Narrow j.duet
+-- a step that isn't refused leads on
+pub led_on : (k : ℕ) (d after : Duet) (step : Step) → IsLed d → after ≡ moved k d step → wide_of after ≡ None → IsLed after
+led_on k d after step led is none = record { reached = rw is (reached_step k d step led.narrow led.reached); narrow = narrow_of after none }
 
-pub sound_start : IsSound begun_journal
-sound_start = record { reached = reached_start setup setup; narrow = λ h. narrow_start setup setup }
+pub led_start : IsLed (start setup setup)
+led_start = record { reached = reached_start setup setup; narrow = narrow_start setup setup }
 
-written_sound : (j : Journal) (after : Duet) (text : List ℕ) (width : Option Width) → Reached setup setup after → wide_of after ≡ width → IsSound (written_as j after text width)
-written_sound j after text None r is = record { reached = r; narrow = λ h. narrow_of after is }
-written_sound j after text (Some width) r is = record { reached = r; narrow = λ h. cc }
-
-unless_sound : (halt : Option Halt) (j next : Journal) → j.halt ≡ halt → IsSound j → (j.halt ≡ None → IsSound next) → IsSound (unless_halted halt j next)
-unless_sound None j next is h go = go is
-unless_sound (Some halt) j next is h go = h
-
-pub sound_step : (j : Journal) (step : Step) → IsSound j → IsSound (takes_step j step)
-unfolding takes_step
-sound_step j step h =
-    unless_sound j.halt j (does_step j step) refl h
-    (λ none. written_sound j (moved (j.steps + 1) j.duet step) (shown (moment_of j.steps j.duet step) step) (wide_of (moved (j.steps + 1) j.duet step))
-      (reached_step (j.steps + 1) j.duet step (h.narrow none) h.reached) refl)
+pub led_agrees : (d : Duet) → IsLed d → agree_of d ≢ Some false
+led_agrees d led = never_disagrees d (agrees_at d led.reached)

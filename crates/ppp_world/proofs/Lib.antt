@@ -8,6 +8,7 @@ pub mod Entries
 pub mod Following
 pub mod LcpAgree
 pub mod LcpLemmas
+pub mod Leading
 pub mod Posting
 pub mod Queues
 pub mod Replays

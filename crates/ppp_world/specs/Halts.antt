@@ -6,6 +6,7 @@ use Rattle.ppp_world.specs.declared.fault.Halt.TheVariants as kept
 use Rattle.ppp_world.specs.declared.fault.WorldFault.{WorldFault}
 use Rattle.ppp_world.specs.declared.fault.WorldFault.TheVariants as fault
 use Rattle.ppp_world.specs.Journal.{OutOfMemory, TooWide}
+use Rattle.ppp_world.specs.Led.{IsLed}
 use Rattle.ppp_world.specs.Journal as journal
 use Rattle.ppp_world.specs.StepViews.{width_seen}
 
@@ -43,6 +44,7 @@ pub record IsCounted (d : Duet) (steps : ℕ) : Type 0 where
   pub of_a : d.a.n ≤ steps
   pub of_b : d.b.n ≤ steps
 
-abbrev pub IsCountedUnless : Option Halt → Duet → ℕ → Type 0
-IsCountedUnless None d steps = IsCounted d steps
-IsCountedUnless (Some halt) d steps = Unit {0}
+-- what a world keeps until it halts
+abbrev pub IsKeptUnless : Option Halt → Duet → ℕ → Type 0
+IsKeptUnless None d steps = IsCounted d steps × IsLed d
+IsKeptUnless (Some halt) d steps = Unit {0}

@@ -6,6 +6,7 @@ pub mod Kinds
 pub mod Lcp
 pub mod LcpLawful
 pub mod LcpSettings
+pub mod Led
 pub mod Parties
 pub mod Replay
 pub mod Replays

@@ -1,18 +1,22 @@
 //! The world of a script.
 
-ghost use Rattle.std.specs.Prelude.{◌≡◌, ◌+◌, ◌<◌, ◌≤◌, ◌++◌, IsSome, OnOk, IfOk, MatchOption};
+ghost use Rattle.ppp_world.specs.Agreed.{agree_on, AreOpened};
+ghost use Rattle.std.specs.Prelude.{◌≡◌, ◌≢◌, ◌↔◌, IsNone, Some, None, false, ◌+◌, ◌<◌, ◌≤◌, ◌++◌, IsSome, OnOk, IfOk, MatchOption};
 ghost use Rattle.ppp_script.specs.Events.{steps_in};
 ghost use Rattle.ppp_world.specs.Halts.{answer_of, halt_in, UnlessMemory, IsCounted};
+ghost use Rattle.ppp_world.specs.Led.{IsLed};
 ghost use Rattle.ppp_world.specs.Journal.{Journal, begun_journal, journal_after, takes_step, does_step, settled};
 ghost use Rattle.ppp_world.specs.Run.{shown};
 ghost use Rattle.ppp_world.specs.StepViews.{step_seen};
 ghost use Rattle.ppp_world.specs.Steps.{moved, side_of, step_of, word_of};
 
+use crate::agreement::agree;
 use crate::fault::{Halt, WorldFault};
 use crate::report::write_show;
-use crate::step::Step;
+use crate::step::{ONLY_LINK, Step};
 use crate::two_ends::TwoEnds;
 use ppp_auto::Memory;
+use ppp_packet::Proto;
 use ppp_script::{End, Event};
 use std::alloc::Global;
 use std::marker::Model;
@@ -29,14 +33,14 @@ pub struct World {
 }
 
 impl Model for World {
-    ghost use Rattle.ppp_world.specs.Halts.{kept_halt, IsCountedUnless};
+    ghost use Rattle.ppp_world.specs.Halts.{kept_halt, IsKeptUnless};
     ghost use Rattle.ppp_world.specs.Journal.{Journal};
 
     ghost Value = { Journal };
 
     ghost view = { λ w. record { duet = w.ends; steps = w.steps; report = w.report.items; halt = kept_halt w.halt } };
 
-    ghost invariant = { λ w. IsCountedUnless w.halt w.ends w.steps };
+    ghost invariant = { λ w. IsKeptUnless w.halt w.ends w.steps };
 }
 
 impl World {
@@ -71,6 +75,21 @@ impl World {
             _ => self.take(Step::of(event)),
         }
         Halt::answer(self.halt)
+    }
+
+    /// Whether the two ends of a protocol on a link agree: each end's granted options are those that the other
+    /// acknowledged, both tables allow them, and the two lists fit. None exactly where not both are Opened, as on a link
+    /// or in a protocol that isn't there. It is never false.
+    pub fn agree(&self, link: u8, proto: Proto) -> Option<bool>
+        requires { self.now.halt ≡ None }
+        ensures value { result ≡ agree_on link proto self.now.duet }
+        ensures none { IsNone result ↔ ¬ (AreOpened link proto self.now.duet) }
+        ensures never_false { result ≢ Some false }
+    {
+        match proto {
+            Proto::Lcp if link == ONLY_LINK => agree(&self.ends),
+            _ => None,
+        }
     }
 
     /// How many steps were done.
@@ -139,9 +158,11 @@ fn go(
     alloc: Global,
 ) -> Result<(), Halt>
     requires counted { IsCounted ends.old steps.old }
+    requires led { IsLed ends.old }
     requires few { steps.old + 1 ≤ 100000 }
     ensures done { UnlessMemory (halt_in result) (record { duet = ends.new; steps = steps.new; report = report.new.items; halt = halt_in result } ≡ does_step (record { duet = ends.old; steps = steps.old; report = report.old.items; halt = None }) (step_seen step)) }
     ensures counted { OnOk result (IsCounted ends.new steps.new) }
+    ensures led { OnOk result (IsLed ends.new) }
     ensures steps { steps.new ≤ steps.old + 1 }
 {
     let number = *steps + 1;
