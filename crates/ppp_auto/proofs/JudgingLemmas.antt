@@ -3,8 +3,7 @@ use Rattle.std.proofs.Common.{◌≡◌, ◌≢◌, ℕ, ◌+◌, ◌-◌, ◌<�
 use Rattle.std.proofs.lemmas.List.{get_or-replicate, get_or-set_same, get_or-set_other, length-set}
 use Rattle.std.proofs.lemmas.List.Folds.{list_any-append}
 use Rattle.std.proofs.lemmas.Bool.{le-ltb, lt-ltb}
-use Rattle.std.proofs.lemmas.Bool.Decides.{nat_tests, eqb_tells}
-use Rattle.std.proofs.lemmas.Grind.{common_steps}
+use Rattle.std.proofs.lemmas.Bool.Decides.{eqb_tells}
 use Rattle.std.proofs.Math.Bool.{or-false, or-true}
 use Rattle.ppp_packet.proofs.OptionLemmas.{written-append}
 use Rattle.ppp_packet.specs.ConfigOption.{ConfigOption}
@@ -30,9 +29,10 @@ seen-other seen kind new b r f n e = rw (f, or-false b) (get_or-set_other seen n
 
 seen-at : (seen : List Bool) (kind new : ℕ) (b : Bool) → new < length seen → get_or seen kind false ≡ b → get_or (set seen new true) kind false ≡ (b || (new == kind))
 seen-at seen kind new b h e =
-    elim (eqb_tells new kind) as (λ _. get_or (set seen new true) kind false ≡ (b || (new == kind)))
-      [ inl p ↦ seen-same seen kind new b (new == kind) h p.0 p.1
-      | inr p ↦ seen-other seen kind new b (new == kind) p.0 p.1 e ]
+    elim (eqb_tells new kind) as (λ _. get_or (set seen new true) kind false ≡ (b || (new == kind))) [
+      | inl p ↦ seen-same seen kind new b (new == kind) h p.0 p.1
+      | inr p ↦ seen-other seen kind new b (new == kind) p.0 p.1 e
+    ]
 
 kind-last : (kind : ℕ) (o : ConfigOption) → has_kind kind (o ∷ []) ≡ (o.kind == kind)
 kind-last kind o = or-false (o.kind == kind)
@@ -182,7 +182,7 @@ returns-cuts : (judge : ConfigOption → Verdict) (theirs left behind : List Con
     left ≡ o ∷ behind → r ≡ has_options (better_of (judge o)) → Cuts (fitting reject_room (unacceptable judge theirs)) (if r then o ∷ unacceptable judge behind else unacceptable judge behind) octets
 returns-cuts judge theirs left behind octets o r s e t =
     let u : unacceptable judge left ≡ (if r then o ∷ unacceptable judge behind else unacceptable judge behind) =
-      ap (unacceptable judge) e ∙ (bad-if o (judge o) (unacceptable judge behind) ∙ ap (λ (b : Bool). if b then o ∷ unacceptable judge behind else unacceptable judge behind) (sym t)) in
+    ap (unacceptable judge) e ∙ (bad-if o (judge o) (unacceptable judge behind) ∙ ap (λ (b : Bool). if b then o ∷ unacceptable judge behind else unacceptable judge behind) (sym t)) in
     rw (← u) s.cuts
 
 pub returns_on : (judge : ConfigOption → Verdict) (theirs left behind : List ConfigOption) (old new : List ℕ) (o : ConfigOption) (r put : Bool) → Returns judge theirs left old →

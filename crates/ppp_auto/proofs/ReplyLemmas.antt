@@ -1,16 +1,16 @@
 -- What answers a request, and that it isn't too long.
-use Rattle.std.proofs.Common.{◌≡◌, ◌≢◌, ℕ, ◌+◌, ◌-◌, ◌*◌, ◌<◌, ◌≤◌, ◌⊎◌, Bool, true, false, ◌||◌, ◌==◌, if◌then◌else◌, nat_lt, nat_le, List, [], ◌∷◌, ◌++◌, length, Option, Some, None, refl, ap, sym, ◌∙◌, arith, length-append, append-nil, inl, inr}
+use Rattle.std.proofs.Common.{◌≡◌, ◌≢◌, ℕ, ◌+◌, ◌*◌, ◌<◌, ◌≤◌, Bool, true, false, ◌||◌, ◌==◌, nat_le, List, [], ◌∷◌, ◌++◌, length, Option, Some, None, refl, ap, sym, ◌∙◌, arith, length-append, append-nil, inl, inr}
 use Rattle.std.specs.List.{list_any}
 use Rattle.std.proofs.lemmas.List.Folds.{list_any-append}
 use Rattle.std.proofs.lemmas.Bool.{le-leb, eq-eqb, eqb-true}
-use Rattle.std.proofs.lemmas.Bool.Decides.{nat_tests, eqb_tells, leb_tells}
-use Rattle.std.proofs.Math.Bool.{or-false, or-true}
-use Rattle.ppp_packet.proofs.OptionLemmas.{written-append}
+use Rattle.std.proofs.lemmas.Bool.Decides.{eqb_tells, leb_tells}
+use Rattle.std.proofs.Math.Bool.{or-false}
+use Rattle.ppp_packet.proofs.OptionLemmas.{written-append, list_of-written}
 use Rattle.ppp_packet.specs.ConfigOption.{ConfigOption}
-use Rattle.ppp_packet.specs.Options.{written, option_octets}
+use Rattle.ppp_packet.specs.Options.{written, option_octets, list_of}
 use Rattle.ppp_auto.specs.declared.verdict.Verdict.{Verdict}
 use Rattle.ppp_auto.specs.declared.verdict.Verdict.TheVariants.{Good, Bad, Unknown}
-use Rattle.ppp_auto.specs.Judging.{has_kind, is_refused, rejected, suggested, unacceptable, better_of, as_list, fitting, has_options, reject_room, max_failure, reply_with}
+use Rattle.ppp_auto.specs.Judging.{has_kind, is_refused, rejected, suggested, better_of, as_list, fitting, has_options, reject_room, max_failure, reply_with}
 use Rattle.ppp_auto.specs.Lawful.{Lawful, Passes, AllGood, NoneTwice}
 use Rattle.ppp_auto.specs.Packets.{Packet, Ack, Nak, Reject}
 use Rattle.ppp_auto.specs.Table.{Table}
@@ -106,12 +106,13 @@ fresh-taken : (earlier : List ConfigOption) (o : ConfigOption) (ks : List ℕ) �
 unfolding fresh
 fresh-taken earlier o [] h f = cc
 fresh-taken earlier o (k ∷ ks) h f =
-    elim (eqb_tells k o.kind) as (λ _. fresh (earlier ++ o ∷ []) (k ∷ ks) + 1 ≤ fresh earlier (k ∷ ks))
-      [ inl p ↦ omega (arith, count-taken k earlier o p.1 f, fresh-less earlier o ks)
+    elim (eqb_tells k o.kind) as (λ _. fresh (earlier ++ o ∷ []) (k ∷ ks) + 1 ≤ fresh earlier (k ∷ ks)) [
+      | inl p ↦ omega (arith, count-taken k earlier o p.1 f, fresh-less earlier o ks)
       | inr p ↦
           let rest : list_any (λ k'. k' == o.kind) ks ≡ true = sym (ap (λ (b : Bool). b || list_any (λ k'. k' == o.kind) ks) p.0) ∙ h in
           let first : count (has_kind k (earlier ++ o ∷ [])) ≤ count (has_kind k earlier) = rw (kind-more k earlier o) (count-or (has_kind k earlier) (o.kind == k)) in
-          omega (arith, first, fresh-taken earlier o ks rest f) ]
+          omega (arith, first, fresh-taken earlier o ks rest f)
+    ]
 
 -- What is known of a table's verdicts: each kind that isn't unknown is one of a list, and what is suggested is short.
 pub record Known (judge : ConfigOption → Verdict) (kinds : List ℕ) : Type 0 where
@@ -150,7 +151,7 @@ suggested_few judge kinds earlier (o ∷ os) k h =
     let taken = fresh-taken earlier o kinds (k.known o (not-unknown o (judge o) o'.fine)) o'.first in
     let first = better-short (judge o) (k.short o) in
     let size : length (written (suggested judge (o ∷ os))) ≡ length (written (better_of (judge o))) + length (written (suggested judge os)) =
-      ap length (written-append (better_of (judge o)) (suggested judge os)) ∙ length-append (written (better_of (judge o))) (written (suggested judge os)) in
+    ap length (written-append (better_of (judge o)) (suggested judge os)) ∙ length-append (written (better_of (judge o))) (written (suggested judge os)) in
     omega arith
 
 pub suggested_short : (judge : ConfigOption → Verdict) (kinds : List ℕ) (theirs : List ConfigOption) → Known judge kinds → length kinds ≤ 16 → false ≡ has_options (rejected judge [] theirs) →
@@ -219,3 +220,7 @@ empty_list empty xs (o ∷ os) e t h = let no : (length (written (o ∷ os)) == 
 
 pub filled_list : (empty : Bool) (xs : List ℕ) (list : List ConfigOption) → xs ≡ written list → empty ≡ (length xs == 0) → empty ≡ false → list ≢ []
 filled_list empty xs list e t h n = let no : false ≡ true = sym h ∙ (t ∙ ap (λ (ys : List ℕ). length ys == 0) (e ∙ ap written n)) in cc
+
+-- an answer that carries the octets of a list
+pub answered : (make : List ConfigOption → Packet) (octets : List ℕ) (list : List ConfigOption) (got want : Packet) → got ≡ make (list_of octets) → octets ≡ written list → want ≡ make list → got ≡ want
+answered make octets list got want g o w = g ∙ (ap (λ (xs : List ℕ). make (list_of xs)) o ∙ (ap make (list_of-written list) ∙ sym w))

@@ -1,5 +1,5 @@
 -- One end's automaton (RFC 1661 section 4), over packets that were read, and over octets.
-use Rattle.std.specs.Prelude.{ℕ, ◌+◌, ◌-◌, ◌*◌, ◌/◌, ◌%◌, ◌^◌, min, Bool, true, false, ◌&&◌, ◌||◌, ◌==◌, nat_lt, nat_le, if◌then◌else◌, List, [], ◌∷◌, ◌++◌, map, length, take, drop, slice_index, Option, Some, None}
+use Rattle.std.specs.Prelude.{ℕ, ◌+◌, ◌-◌, ◌*◌, ◌/◌, ◌%◌, ◌^◌, min, Bool, true, false, ◌&&◌, ◌||◌, ◌==◌, nat_lt, nat_le, if◌then◌else◌, List, [], ◌∷◌, ◌++◌, map, length, take, drop, Option, Some, None}
 use Rattle.ppp_packet.specs.ConfigOption.{ConfigOption}
 use Rattle.ppp_packet.specs.Packet.{packet_octets}
 use Rattle.ppp_auto.specs.declared.state.AutoState.{AutoState}
@@ -12,7 +12,7 @@ use Rattle.ppp_auto.specs.declared.row.Input.{Input}
 use Rattle.ppp_auto.specs.declared.row.Input.TheVariants as on
 use Rattle.ppp_auto.specs.declared.row.Action.{Action}
 use Rattle.ppp_auto.specs.declared.row.Action.TheVariants.{ThisUp, ThisDown, ThisStarted, ThisFinished, InitRestart, ZeroRestart, SendRequest, RepeatRequest, SendAck, SendNak, SendTerminate, SendTerminateAck, SendCodeReject, SendEchoReply}
-use Rattle.ppp_auto.specs.Judging.{same_option, same_list, is_sublist, has_options, Reply, reply_to, max_failure}
+use Rattle.ppp_auto.specs.Judging.{same_list, is_sublist, has_options, Reply, reply_to, max_failure}
 use Rattle.ppp_auto.specs.Packets.{Packet, Request, Ack, Nak, Reject, Other, octets_of, packet_of}
 use Rattle.ppp_auto.specs.Rows.{Row, row_of, asks, acks, refuses, draws, restart_after}
 use Rattle.ppp_auto.specs.Table.{Table}

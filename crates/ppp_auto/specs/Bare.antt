@@ -1,9 +1,8 @@
 -- A table that knows no option: every option is rejected, and the empty list alone is sent.
-use Rattle.std.specs.Prelude.{◌≡◌, ◌≤◌, ℕ, Bool, List, [], ◌∷◌, length, Option, None, refl}
+use Rattle.std.specs.Prelude.{◌≡◌, ◌≤◌, ℕ, Bool, List, [], ◌∷◌, length, None, refl}
 use Rattle.std.proofs.Common.{arith, inl}
 use Rattle.ppp_packet.specs.ConfigOption.{ConfigOption}
 use Rattle.ppp_packet.specs.Options.{written}
-use Rattle.ppp_auto.specs.declared.verdict.Verdict.{Verdict}
 use Rattle.ppp_auto.specs.declared.verdict.Verdict.TheVariants.{Good, Bad, Unknown}
 use Rattle.ppp_auto.specs.Lawful.{Lawful, Passes, AllGood}
 use Rattle.ppp_auto.specs.Table.{Table}

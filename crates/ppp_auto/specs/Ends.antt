@@ -1,5 +1,5 @@
 -- One end and what a packet is to it, as the code keeps them.
-use Rattle.std.specs.Prelude.{ℕ, ◌+◌, ◌≤◌, List, [], ◌∷◌, ◌++◌, Option, Some, None, map}
+use Rattle.std.specs.Prelude.{ℕ, ◌≤◌, List, [], Option, Some, None, map}
 use Rattle.std.specs.Option.{option_to_list, unwrap_or}
 use Rattle.ppp_packet.specs.ConfigOption.{ConfigOption}
 use Rattle.ppp_auto.specs.declared.end.End.{End}

@@ -1,5 +1,5 @@
 -- The entries of an outbox: as they are kept, and as they are lent.
-use Rattle.std.specs.Prelude.{ℕ, ◌+◌, ◌-◌, ◌≤◌, List, [], ◌∷◌, map, length, take, drop}
+use Rattle.std.specs.Prelude.{ℕ, ◌+◌, ◌-◌, ◌≤◌, List, [], ◌∷◌, length, take, drop}
 use Rattle.ppp_auto.specs.declared.outbox.EntryRef.{EntryRef}
 use Rattle.ppp_auto.specs.declared.outbox.EntryRef.TheVariants as lent
 use Rattle.ppp_auto.specs.declared.outbox.Slot.{Slot}

@@ -1,5 +1,5 @@
 -- What an outbox keeps.
-use Rattle.std.specs.Prelude.{ℕ, ◌*◌, ◌≤◌, List, map, length, vec_len, vec_capacity}
+use Rattle.std.specs.Prelude.{◌*◌, ◌≤◌, List, map, vec_len, vec_capacity}
 use Rattle.arrayvec.specs.ArrayVec.{array_vec_len}
 use Rattle.ppp_auto.specs.declared.outbox.Outbox.TheInside.{Inside}
 use Rattle.ppp_auto.specs.Automaton.{Entry}

@@ -1,5 +1,5 @@
 -- Packets of the automaton (RFC 1661 section 5): codes 1 to 4 carry options, the others octets.
-use Rattle.std.specs.Prelude.{ℕ, Bool, ◌==◌, if◌then◌else◌, List, Option, Some, None}
+use Rattle.std.specs.Prelude.{ℕ, ◌==◌, if◌then◌else◌, List, Option, Some}
 use Rattle.std.specs.Option.{option_map, option_and_then}
 use Rattle.ppp_packet.specs.ConfigOption.{ConfigOption}
 use Rattle.ppp_packet.specs.Options.{written, options_of}

@@ -1,5 +1,5 @@
 -- The code's own types as the definitions see them.
-use Rattle.std.specs.Prelude.{ℕ, ◌-◌, if◌then◌else◌, Bool, true, false, List, [], ◌∷◌, ◌++◌, Option, Some, None}
+use Rattle.std.specs.Prelude.{ℕ, ◌-◌, if◌then◌else◌, Bool, true, false, List, [], ◌∷◌, ◌++◌, Option, Some}
 use Rattle.ppp_packet.specs.ConfigOption.{ConfigOption}
 use Rattle.std.specs.Option.{option_to_list}
 use Rattle.ppp_auto.specs.declared.cell.Cell.{Cell}

@@ -187,7 +187,11 @@ fn at_close(state: AutoState) -> Cell
         AutoState::Stopped => go(AutoState::Closed),
         AutoState::Stopping => go(AutoState::Closing),
         AutoState::ReqSent | AutoState::AckRcvd | AutoState::AckSent => {
-            two(Action::InitRestart, Action::SendTerminate, AutoState::Closing)
+            two(
+                Action::InitRestart,
+                Action::SendTerminate,
+                AutoState::Closing,
+            )
         }
         AutoState::Opened => three(
             Action::ThisDown,
@@ -411,13 +415,7 @@ fn restart_at(action: Option<Action>, ends: bool, restart: u8) -> u8
     ensures { result ≡ restart_step action ends restart }
 {
     match action {
-        Some(Action::InitRestart) => {
-            if ends {
-                MAX_TERMINATE
-            } else {
-                MAX_CONFIGURE
-            }
-        }
+        Some(Action::InitRestart) => { if ends { MAX_TERMINATE } else { MAX_CONFIGURE } }
         Some(Action::ZeroRestart) => 0,
         Some(Action::SendRequest | Action::RepeatRequest | Action::SendTerminate) => {
             restart.saturating_sub(1)

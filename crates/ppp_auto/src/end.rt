@@ -241,13 +241,7 @@ fn peer_after(end: &End, cell: &Cell, incoming: &Incoming<'_>) -> OptList
 }
 
 /// Puts the entry of an action into an outbox, if there is one.
-fn emit(
-    out: &mut Outbox,
-    action: Option<Action>,
-    old: &End,
-    new: &End,
-    incoming: &Incoming<'_>,
-)
+fn emit(out: &mut Outbox, action: Option<Action>, old: &End, new: &End, incoming: &Incoming<'_>)
     requires few { length out.old < 4 }
     requires cap { IsCap old.now.cap }
     ensures entries { out.new ≡ out.old ++ entries_at (auto_of old.now) (auto_of new.now) (taken_in incoming.now) action }

@@ -66,7 +66,7 @@ fn refusing(answer: Answer) -> Reply
     }
 }
 
-/// Whether an option is to be rejected.
+/// Whether one of the options is to be rejected.
 fn has_rejected<T: OptionTable>(table: &T, own: &OptList, theirs: &Options<'_>, word: u64) -> bool
     ensures { result ≡ has_options (rejected (judging_by (T.table table.now) own.now word) [] theirs.now) }
 {
@@ -83,7 +83,12 @@ fn has_rejected<T: OptionTable>(table: &T, own: &OptList, theirs: &Options<'_>, 
 }
 
 /// The octets of the options to reject, as many as fit.
-fn rejected_options<T: OptionTable>(table: &T, own: &OptList, theirs: &Options<'_>, word: u64) -> Rest
+fn rejected_options<T: OptionTable>(
+    table: &T,
+    own: &OptList,
+    theirs: &Options<'_>,
+    word: u64,
+) -> Rest
     ensures { result.items ≡ written (fitting reject_room (rejected (judging_by (T.table table.now) own.now word) [] theirs.now)) }
 {
     let mut octets = ArrayVec::new();
@@ -100,7 +105,7 @@ fn rejected_options<T: OptionTable>(table: &T, own: &OptList, theirs: &Options<'
     octets
 }
 
-/// Whether an option is bad.
+/// Whether one of the options is bad.
 fn has_bad<T: OptionTable>(table: &T, own: &OptList, theirs: &Options<'_>, word: u64) -> bool
     ensures { result ≡ has_options (suggested (judging_by (T.table table.now) own.now word) theirs.now) }
 {

@@ -311,8 +311,7 @@ fn is_reject_of(end: &End, id: u8, options: &Options<'_>) -> bool
     ensures { result ≡ is_reject_of (auto_of end.now) id options.now }
 {
     !options.is_empty()
-        && (is_idle(end.state)
-            || (id == end.last_id() && is_sublist(options, &end.own.options())))
+        && (is_idle(end.state) || (id == end.last_id() && is_sublist(options, &end.own.options())))
 }
 
 /// Whether the first list is a sublist of the second, in order.
@@ -503,7 +502,11 @@ fn echo_octets(magic: u32, rest: &[u8], cap: u16) -> Rest
     let mut number = [0; MAGIC];
     BigEndian::write_u32(&mut number, magic);
     let room = usize::from(cap) - HEADER - MAGIC;
-    let kept = if rest.len() <= room { rest } else { &rest[..room] };
+    let kept = if rest.len() <= room {
+        rest
+    } else {
+        &rest[..room]
+    };
     let mut octets = ArrayVec::new();
     octets.try_extend_from_slice(&number).unwrap();
     octets.try_extend_from_slice(kept).unwrap();

@@ -13,6 +13,7 @@ struct Bare;
 
 impl OptionTable for Bare {
     const PROTOCOL: u16 = 0xc021;
+
     const EXTENDED: bool = true;
 
     ghost EXTENDED = { true };
@@ -78,12 +79,24 @@ fn opens_and_answers(rt: HostRuntime) -> Result<(), Fail> {
     automaton.set_cap(128);
     let steps: [(&[u8], &[u8], AutoState); 8] = [
         (&[1, 1, 0, 3], &[], AutoState::ReqSent),
-        (&[1, 1, 0, 8, 5, 4, 0, 0], &[4, 1, 0, 8, 5, 4, 0, 0], AutoState::ReqSent),
+        (
+            &[1, 1, 0, 8, 5, 4, 0, 0],
+            &[4, 1, 0, 8, 5, 4, 0, 0],
+            AutoState::ReqSent,
+        ),
         (&[2, 2, 0, 4], &[], AutoState::ReqSent),
         (&[2, 1, 0, 4], &[], AutoState::AckRcvd),
         (&[1, 2, 0, 4, 0], &[2, 2, 0, 4], AutoState::Opened),
-        (&[12, 7, 0, 4], &[7, 1, 0, 8, 12, 7, 0, 4], AutoState::Opened),
-        (&[9, 5, 0, 8, 1, 2, 3, 4], &[10, 5, 0, 8, 0, 0, 0, 0], AutoState::Opened),
+        (
+            &[12, 7, 0, 4],
+            &[7, 1, 0, 8, 12, 7, 0, 4],
+            AutoState::Opened,
+        ),
+        (
+            &[9, 5, 0, 8, 1, 2, 3, 4],
+            &[10, 5, 0, 8, 0, 0, 0, 0],
+            AutoState::Opened,
+        ),
         (&[5, 9, 0, 4], &[6, 9, 0, 4], AutoState::Stopping),
     ];
     for (came, sent, state) in steps {

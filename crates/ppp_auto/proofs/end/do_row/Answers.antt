@@ -1,5 +1,4 @@
-use Rattle.std.proofs.Common.{◌≡◌, ◌∙◌, sym, ap, ◌++◌, List, []}
-use Rattle.ppp_auto.specs.Automaton.{Auto, Taken, Entry}
+use Rattle.std.proofs.Common.{◌∙◌, sym, ap}
 use Rattle.ppp_auto.specs.Ends.{auto_of, taken_in, entries_at}
 use Rattle.ppp_auto.specs.Rows.{Row, acks}
 use Rattle.ppp_auto.specs.Views.{row_in}

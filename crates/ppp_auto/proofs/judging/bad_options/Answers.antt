@@ -1,8 +1,6 @@
-use Rattle.std.proofs.Common.{◌∙◌, sym, ap, ◌++◌, arith}
-use Rattle.ppp_packet.specs.Options.{written}
+use Rattle.std.proofs.Common.{◌∙◌, ap}
 use Rattle.ppp_auto.specs.declared.verdict.Verdict.{Verdict}
 use Rattle.ppp_auto.specs.Judging.{has_options, better_of}
-use Rattle.ppp_auto.specs.Views.{judging_by}
 use Rattle.ppp_packet.specs.Readings.{option_in}
 use Rattle.ppp_auto.proofs.JudgingLemmas.{returns_first, returns_on, returns_full, returns_all}
 use Rattle.ppp_auto.proofs.judging.bad_options.Goals as goal

@@ -1,4 +1,4 @@
-use Rattle.std.proofs.Common.{◌≡◌, ◌∙◌, sym, ap, ◌++◌, ◌∷◌, [], arith, Some}
+use Rattle.std.proofs.Common.{◌∙◌}
 use Rattle.ppp_auto.proofs.ReplyLemmas.{missing_written}
 use Rattle.ppp_auto.specs.Judging.{suggested}
 use Rattle.ppp_auto.specs.Views.{judging_by}

@@ -1,5 +1,4 @@
 use Rattle.ppp_packet.specs.Readings.{option_in}
-use Rattle.ppp_auto.specs.Views.{judging_by}
 use Rattle.ppp_auto.proofs.JudgingLemmas.{searches_first, searches_on, searches_found, searches_none}
 use Rattle.ppp_auto.proofs.judging.has_rejected.Goals as goal
 

@@ -1,7 +1,7 @@
-use Rattle.std.proofs.Common.{◌∙◌, sym, ap, ◌++◌, arith}
+use Rattle.std.proofs.Common.{◌∙◌, ap, ◌++◌, arith}
 use Rattle.ppp_packet.specs.Options.{written}
 use Rattle.ppp_auto.specs.declared.verdict.Verdict.{Verdict}
-use Rattle.ppp_auto.specs.Judging.{has_options, better_of}
+use Rattle.ppp_auto.specs.Judging.{better_of}
 use Rattle.ppp_auto.specs.Views.{judging_by}
 use Rattle.ppp_packet.specs.Readings.{option_in}
 use Rattle.ppp_auto.proofs.JudgingLemmas.{suggests_first, suggests_on, suggests_room, suggests_all}

@@ -1,4 +1,3 @@
-use Rattle.std.proofs.Common.{◌∙◌, ap, sym}
 use Rattle.ppp_packet.specs.Readings.{option_in}
 use Rattle.ppp_auto.specs.Judging.{is_sublist}
 use Rattle.ppp_auto.proofs.ListLemmas.{sublist_step, sublist_end}

@@ -1,4 +1,4 @@
-use Rattle.std.proofs.Common.{◌≡◌, ◌∙◌, sym, ◌++◌, ap, arith, length, List, vec_len, [], ◌∷◌}
+use Rattle.std.proofs.Common.{◌∙◌, ◌++◌, ap, arith, List, [], ◌∷◌}
 use Rattle.ppp_packet.specs.Packet.{packet_octets}
 use Rattle.ppp_auto.specs.Automaton.{Entry, Send}
 use Rattle.ppp_auto.proofs.OutboxLemmas.{sent, Sent}
