@@ -1,6 +1,6 @@
 -- Two ends with tables of one type, and a queue of packets to each: one protocol on one link. Each Configure-Request
 -- in a queue carries its ordinal as a mark, each answer to it the same mark. No end reads a mark.
-use Rattle.std.specs.Prelude.{ℕ, zero, suc, ◌+◌, ◌-◌, ◌≤◌, min, Bool, true, false, ◌||◌, if◌then◌else◌, List, [], ◌∷◌, ◌++◌, Option, Some, None}
+use Rattle.std.specs.Prelude.{ℕ, zero, suc, ◌+◌, ◌-◌, ◌≤◌, min, Bool, true, false, if◌then◌else◌, List, [], ◌∷◌, ◌++◌, Option, Some, None}
 use Rattle.ppp_packet.specs.ConfigOption.{ConfigOption}
 use Rattle.ppp_auto.specs.declared.state.AutoState.{AutoState}
 use Rattle.ppp_auto.specs.declared.state.AutoState.TheVariants.{Initial, Starting}

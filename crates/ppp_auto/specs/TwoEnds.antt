@@ -1,7 +1,6 @@
 -- What holds of two ends in every run.
-use Rattle.std.specs.Prelude.{◌≡◌, ℕ, ◌≤◌, ◌⊎◌, List, [], ◌∷◌, ◌++◌, ⊤}
+use Rattle.std.specs.Prelude.{◌≡◌, ℕ, ◌⊎◌, List, [], ◌∷◌, ◌++◌, ⊤}
 use Rattle.ppp_packet.specs.ConfigOption.{ConfigOption}
-use Rattle.ppp_auto.specs.declared.state.AutoState.{AutoState}
 use Rattle.ppp_auto.specs.declared.state.AutoState.TheVariants.{Opened}
 use Rattle.ppp_auto.specs.Duet.{Duet, End, Event, Setup, Side, A, B, Happening, Delivers, happens, run, start, Narrow}
 use Rattle.ppp_auto.specs.Table.{Table}
