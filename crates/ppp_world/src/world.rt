@@ -1,12 +1,12 @@
 //! The world of a script.
 
-ghost use Rattle.std.specs.Prelude.{◌≡◌, ◌+◌, ◌<◌, ◌≤◌, ◌++◌, IsSome, OnOk, IfOk, MatchOption};
+ghost use Rattle.std.specs.Prelude.{◌≡◌, ◌+◌, ◌≤◌, ◌++◌, IsSome, OnOk, IfOk};
 ghost use Rattle.ppp_script.specs.Events.{steps_in};
 ghost use Rattle.ppp_world.specs.Halts.{answer_of, halt_in, UnlessMemory, IsCounted};
-ghost use Rattle.ppp_world.specs.Journal.{Journal, begun_journal, journal_after, takes_step, does_step, settled};
+ghost use Rattle.ppp_world.specs.Journal.{begun_journal, journal_after, takes_step, does_step, settled};
 ghost use Rattle.ppp_world.specs.Run.{shown};
 ghost use Rattle.ppp_world.specs.StepViews.{step_seen};
-ghost use Rattle.ppp_world.specs.Steps.{moved, side_of, step_of, word_of};
+ghost use Rattle.ppp_world.specs.Steps.{moved, side_of, word_of};
 
 use crate::fault::{Halt, WorldFault};
 use crate::report::write_show;
@@ -40,8 +40,6 @@ impl Model for World {
 }
 
 impl World {
-    ghost use Rattle.ppp_world.specs.Journal.{OutOfMemory};
-
     /// Both ends as they begin, with nothing under way and an empty report.
     pub fn new(alloc: Global) -> Result<World, Memory>
         ensures { IfOk result (λ world. world ≡ begun_journal) }
