@@ -1,14 +1,14 @@
 //! The world of a script.
 
-ghost use Rattle.ppp_world.specs.Agreed.{agree_on, AreOpened};
-ghost use Rattle.std.specs.Prelude.{◌≡◌, ◌≢◌, ◌↔◌, IsNone, Some, None, false, ◌+◌, ◌<◌, ◌≤◌, ◌++◌, IsSome, OnOk, IfOk, MatchOption};
+ghost use Rattle.std.specs.Prelude.{◌≡◌, ◌≢◌, ◌↔◌, ◌+◌, ◌≤◌, ◌++◌, false, IsNone, IsSome, OnOk, IfOk, None, Some};
 ghost use Rattle.ppp_script.specs.Events.{steps_in};
+ghost use Rattle.ppp_world.specs.Agreed.{agree_on, AreOpened};
 ghost use Rattle.ppp_world.specs.Halts.{answer_of, halt_in, UnlessMemory, IsCounted};
+ghost use Rattle.ppp_world.specs.Journal.{begun_journal, journal_after, takes_step, does_step, settled};
 ghost use Rattle.ppp_world.specs.Led.{IsLed};
-ghost use Rattle.ppp_world.specs.Journal.{Journal, begun_journal, journal_after, takes_step, does_step, settled};
 ghost use Rattle.ppp_world.specs.Run.{shown};
 ghost use Rattle.ppp_world.specs.StepViews.{step_seen};
-ghost use Rattle.ppp_world.specs.Steps.{moved, side_of, step_of, word_of};
+ghost use Rattle.ppp_world.specs.Steps.{moved, side_of, word_of};
 
 use crate::agreement::agree;
 use crate::fault::{Halt, WorldFault};
@@ -44,8 +44,6 @@ impl Model for World {
 }
 
 impl World {
-    ghost use Rattle.ppp_world.specs.Journal.{OutOfMemory};
-
     /// Both ends as they begin, with nothing under way and an empty report.
     pub fn new(alloc: Global) -> Result<World, Memory>
         ensures { IfOk result (λ world. world ≡ begun_journal) }
