@@ -4,6 +4,8 @@
 mod answer;
 mod line;
 mod reading;
+#[cfg(test)]
+mod rows;
 mod run;
 mod status;
 mod words;

@@ -47,7 +47,12 @@ fn end_text(end: End) -> &'static [u8]
 }
 
 /// `line K WHY`, for a refused line of the script.
-pub(crate) fn put_bad_line(octets: &mut Vec<u8>, alloc: Global, line: u32, why: LineWhy) -> Result<(), Memory>
+pub(crate) fn put_bad_line(
+    octets: &mut Vec<u8>,
+    alloc: Global,
+    line: u32,
+    why: LineWhy,
+) -> Result<(), Memory>
     ensures { OnOk result (octets.new.items ≡ octets.old.items ++ bad_line line why) }
 {
     put(octets, b"line ")?;
@@ -58,7 +63,11 @@ pub(crate) fn put_bad_line(octets: &mut Vec<u8>, alloc: Global, line: u32, why: 
 }
 
 /// `outstanding step K end E link 1 lcp sent S oldest O`, for a step that would make a span too wide.
-pub(crate) fn put_outstanding(octets: &mut Vec<u8>, alloc: Global, refusal: &Refusal) -> Result<(), Memory>
+pub(crate) fn put_outstanding(
+    octets: &mut Vec<u8>,
+    alloc: Global,
+    refusal: &Refusal,
+) -> Result<(), Memory>
     ensures { OnOk result (octets.new.items ≡ octets.old.items ++ (step_text refusal.now.step refusal.now.end ++ span_text refusal.now.sent refusal.now.oldest)) }
 {
     put_step(octets, alloc, u64::from(refusal.step), refusal.end)?;

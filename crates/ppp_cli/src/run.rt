@@ -1,6 +1,6 @@
 //! The whole program.
 
-ghost use Rattle.std.specs.Prelude.{◌≡◌, ◌≢◌, ◌≤◌, List, ℕ, length, map, string_bytes, Some, None};
+ghost use Rattle.std.specs.Prelude.{◌≡◌, ◌≢◌, ◌≤◌, List, ℕ, length, map, string_bytes, IsSome, Some, None};
 ghost use Rattle.ppp_io.specs.Causes.{Rose};
 ghost use Rattle.ppp_io.specs.Told.{PutsOn, TakesOff, IsDrained};
 ghost use Rattle.ppp_cli.specs.Answers.{Answers, AgreesIfReplayed};
@@ -37,6 +37,8 @@ pub fn ppp_run<S: Source, K: Sink>(
     ensures long { result ≡ Status.TooLong → (taken : List ℕ) × TakesOff (S.left input.old) (S.left input.new) taken × (length taken ≡ 1048577) }
     ensures read_line { result ≡ Status.ReadFault → PutsOn (K.held output.old) (K.held output.new) read_fault_line }
     ensures read { result ≡ Status.ReadFault → Rose (S.faults input.old) (S.faults input.new) }
+    ensures read_words { result ≡ Status.ReadFault → IsSome (command_of (map string_bytes args.now)) }
+    ensures unread { command_of (map string_bytes args.now) ≡ None → S.left input.new ≡ S.left input.old }
     ensures write { result ≡ Status.WriteFault → Rose (K.faults output.old) (K.faults output.new) }
 {
     match command_in(args) {
