@@ -73,22 +73,22 @@ reached_a : (more : ℕ) (d : Duet) → length d.to_a ≤ queue_room + more → 
 reached_a zero d fits r = subst (Reached setup setup) (sym (fits_a d (omega arith))) r
 reached_a (suc more) d fits r =
     elim (cases_lt queue_room (length d.to_a)) [
-      | inr short ↦ subst (Reached setup setup) (sym (fits_a d short)) r
-      | inl long ↦
-          let shorter = without_shorter queue_room d.to_a long in
-          let one = subst (Reached setup setup) (lost_a d) (reached_on setup setup d (loss A) tt r) in
-          subst (Reached setup setup) (same_a d) (reached_a more (record d { to_a = without (suc queue_room) d.to_a }) (omega (arith, shorter)) one)
+      inr short ↦ subst (Reached setup setup) (sym (fits_a d short)) r
+    | inl long ↦
+      let shorter = without_shorter queue_room d.to_a long in
+      let one = subst (Reached setup setup) (lost_a d) (reached_on setup setup d (loss A) tt r) in
+      subst (Reached setup setup) (same_a d) (reached_a more (record d { to_a = without (suc queue_room) d.to_a }) (omega (arith, shorter)) one)
     ]
 
 reached_b : (more : ℕ) (d : Duet) → length d.to_b ≤ queue_room + more → Reached setup setup d → Reached setup setup (trimmed_b d)
 reached_b zero d fits r = subst (Reached setup setup) (sym (fits_b d (omega arith))) r
 reached_b (suc more) d fits r =
     elim (cases_lt queue_room (length d.to_b)) [
-      | inr short ↦ subst (Reached setup setup) (sym (fits_b d short)) r
-      | inl long ↦
-          let shorter = without_shorter queue_room d.to_b long in
-          let one = subst (Reached setup setup) (lost_b d) (reached_on setup setup d (loss B) tt r) in
-          subst (Reached setup setup) (same_b d) (reached_b more (record d { to_b = without (suc queue_room) d.to_b }) (omega (arith, shorter)) one)
+      inr short ↦ subst (Reached setup setup) (sym (fits_b d short)) r
+    | inl long ↦
+      let shorter = without_shorter queue_room d.to_b long in
+      let one = subst (Reached setup setup) (lost_b d) (reached_on setup setup d (loss B) tt r) in
+      subst (Reached setup setup) (same_b d) (reached_b more (record d { to_b = without (suc queue_room) d.to_b }) (omega (arith, shorter)) one)
     ]
 
 trimmed : (d : Duet) → trimmed_b (trimmed_a d) ≡ within_room d
@@ -226,4 +226,4 @@ unfolding takes_step
 sound_step j step h =
     unless_sound j.halt j (does_step j step) refl h
     (λ none. written_sound j (moved (j.steps + 1) j.duet step) (shown (moment_of j.steps j.duet step) step) (wide_of (moved (j.steps + 1) j.duet step))
-    (reached_step (j.steps + 1) j.duet step (h.narrow none) h.reached) refl)
+      (reached_step (j.steps + 1) j.duet step (h.narrow none) h.reached) refl)

@@ -6,9 +6,25 @@ use std::test::Fail;
 
 /// What happens at an end: an event without a packet, or a packet that comes.
 #[derive(Clone, Copy, Debug)]
-enum Step<'a> {
+enum Step {
     Event(AutoEvent),
-    Packet(&'a [u8]),
+    Packet(&'static [u8]),
+}
+
+/// What an outbox is to hold: a packet to send, or a signal to the layers beside.
+#[derive(Clone, Copy)]
+enum Entry {
+    Packet(&'static [u8]),
+    Signal(LayerSignal),
+}
+
+/// A step of an end after other steps: the entries that it leads to, and the state then.
+#[derive(Clone, Copy)]
+struct Case<'a> {
+    before: &'a [Step],
+    step: Step,
+    entries: &'a [Entry],
+    state: AutoState,
 }
 
 /// The word from which the own Magic-Number 4 is drawn.
@@ -17,11 +33,11 @@ const OWN: u64 = 4;
 /// The word of a step that is looked at.
 const WORD: u64 = 0x2a;
 
-const OPEN: Step<'static> = Step::Event(AutoEvent::AdminOpen);
+const OPEN: Step = Step::Event(AutoEvent::AdminOpen);
 
-const CLOSE: Step<'static> = Step::Event(AutoEvent::AdminClose);
+const CLOSE: Step = Step::Event(AutoEvent::AdminClose);
 
-const UP: Step<'static> = Step::Event(AutoEvent::Up);
+const UP: Step = Step::Event(AutoEvent::Up);
 
 /// A Configure-Request without options, and the Configure-Ack that answers it.
 const PLAIN: &[u8] = &[1, 1, 0, 4];
@@ -45,7 +61,7 @@ const TERMINATE: &[u8] = &[5, 7, 0, 4];
 const TERMINATE_ACK: &[u8] = &[6, 7, 0, 4];
 
 /// Takes a step.
-fn take(automaton: &mut Automaton<LcpTable>, step: Step<'_>, word: u64, out: &mut Outbox) {
+fn take(automaton: &mut Automaton<LcpTable>, step: Step, word: u64, out: &mut Outbox) {
     match step {
         Step::Event(event) => automaton.event(event, word, out),
         Step::Packet(octets) => automaton.packet(octets, word, out),
@@ -53,7 +69,7 @@ fn take(automaton: &mut Automaton<LcpTable>, step: Step<'_>, word: u64, out: &mu
 }
 
 /// A new end that asks for a Magic-Number alone, after steps.
-fn end_after(steps: &[Step<'_>], out: &mut Outbox) -> Automaton<LcpTable> {
+fn end_after(steps: &[Step], out: &mut Outbox) -> Automaton<LcpTable> {
     let mut automaton = Automaton::new(LcpTable::new(1500, true), 1);
     for step in steps {
         take(&mut automaton, *step, OWN, out);
@@ -61,28 +77,28 @@ fn end_after(steps: &[Step<'_>], out: &mut Outbox) -> Automaton<LcpTable> {
     automaton
 }
 
-/// Whether two entries are the same.
-fn is_same(one: EntryRef<'_>, other: EntryRef<'_>) -> bool {
-    match (one, other) {
-        (EntryRef::Send(one), EntryRef::Send(other)) => one == other,
-        (EntryRef::Signal(one), EntryRef::Signal(other)) => one == other,
+/// Whether an entry is this one.
+fn is_entry(entry: EntryRef<'_>, wanted: Entry) -> bool {
+    match (entry, wanted) {
+        (EntryRef::Send(octets), Entry::Packet(packet)) => octets == packet,
+        (EntryRef::Signal(told), Entry::Signal(signal)) => told == signal,
         _ => false,
     }
 }
 
 /// Whether an outbox has exactly these entries.
-fn has_exactly(out: &Outbox, entries: &[EntryRef<'_>]) -> bool {
+fn has_exactly(out: &Outbox, entries: &[Entry]) -> bool {
     for i in 0..out.count() {
-        if i >= entries.len() || !is_same(out.at(i), entries[i]) {
+        if i >= entries.len() || !is_entry(out.at(i), entries[i]) {
             return false;
         }
     }
     out.count() == entries.len()
 }
 
-/// Whether an outbox has exactly these packets, and no signal.
+/// Whether an outbox has exactly this packet, and no signal.
 fn sends_exactly(out: &Outbox, packet: &[u8]) -> bool {
-    has_exactly(out, &[EntryRef::Send(packet)])
+    out.count() == 1 && matches!(out.at(0), EntryRef::Send(octets) if octets == packet)
 }
 
 #[test]
@@ -166,113 +182,117 @@ fn follows_the_event_table(rt: HostRuntime) -> Result<(), Fail> {
     let mut out = Outbox::new(rt.alloc())?;
     let (plain, ack) = (Step::Packet(PLAIN), Step::Packet(ACK));
     let opened = [OPEN, UP, plain, ack];
-    let down = EntryRef::Signal(LayerSignal::Down);
-    // the steps before, what happens then, what is told and sent, and the state then
-    let rows: [(&[Step<'_>], Step<'_>, &[EntryRef<'_>], AutoState); 16] = [
-        (
-            &[],
-            OPEN,
-            &[EntryRef::Signal(LayerSignal::Started)],
-            AutoState::Starting,
-        ),
+    let down = Entry::Signal(LayerSignal::Down);
+    let cases = [
+        Case {
+            before: &[],
+            step: OPEN,
+            entries: &[Entry::Signal(LayerSignal::Started)],
+            state: AutoState::Starting,
+        },
         // the own request is acknowledged, naked and rejected; an Ack of another isn't looked at
-        (
-            &[OPEN, UP, plain],
-            ack,
-            &[EntryRef::Signal(LayerSignal::Up)],
-            AutoState::Opened,
-        ),
-        (
-            &[OPEN, UP, plain],
-            Step::Packet(&[2, 2, 0, 10, 5, 6, 0, 0, 0, 4]),
-            &[],
-            AutoState::AckSent,
-        ),
-        (
-            &[OPEN, UP],
-            Step::Packet(&[3, 1, 0, 10, 5, 6, 0, 0, 0, 7]),
-            &[EntryRef::Send(&[1, 2, 0, 10, 5, 6, 0, 0, 0, 7])],
-            AutoState::ReqSent,
-        ),
-        (
-            &[OPEN, UP],
-            Step::Packet(&[4, 1, 0, 10, 5, 6, 0, 0, 0, 4]),
-            &[EntryRef::Send(&[1, 2, 0, 4])],
-            AutoState::ReqSent,
-        ),
+        Case {
+            before: &[OPEN, UP, plain],
+            step: ack,
+            entries: &[Entry::Signal(LayerSignal::Up)],
+            state: AutoState::Opened,
+        },
+        Case {
+            before: &[OPEN, UP, plain],
+            step: Step::Packet(&[2, 2, 0, 10, 5, 6, 0, 0, 0, 4]),
+            entries: &[],
+            state: AutoState::AckSent,
+        },
+        Case {
+            before: &[OPEN, UP],
+            step: Step::Packet(&[3, 1, 0, 10, 5, 6, 0, 0, 0, 7]),
+            entries: &[Entry::Packet(&[1, 2, 0, 10, 5, 6, 0, 0, 0, 7])],
+            state: AutoState::ReqSent,
+        },
+        Case {
+            before: &[OPEN, UP],
+            step: Step::Packet(&[4, 1, 0, 10, 5, 6, 0, 0, 0, 4]),
+            entries: &[Entry::Packet(&[1, 2, 0, 4])],
+            state: AutoState::ReqSent,
+        },
         // requests in Opened, good and not
-        (
-            &opened,
-            plain,
-            &[down, EntryRef::Send(SECOND), EntryRef::Send(PLAIN_ACK)],
-            AutoState::AckSent,
-        ),
-        (
-            &opened,
-            Step::Packet(SMALL),
-            &[down, EntryRef::Send(SECOND), EntryRef::Send(SMALL_NAK)],
-            AutoState::ReqSent,
-        ),
+        Case {
+            before: &opened,
+            step: plain,
+            entries: &[down, Entry::Packet(SECOND), Entry::Packet(PLAIN_ACK)],
+            state: AutoState::AckSent,
+        },
+        Case {
+            before: &opened,
+            step: Step::Packet(SMALL),
+            entries: &[down, Entry::Packet(SECOND), Entry::Packet(SMALL_NAK)],
+            state: AutoState::ReqSent,
+        },
         // a code that isn't known
-        (
-            &opened,
-            Step::Packet(&[12, 7, 0, 4]),
-            &[EntryRef::Send(&[7, 1, 0, 8, 12, 7, 0, 4])],
-            AutoState::Opened,
-        ),
+        Case {
+            before: &opened,
+            step: Step::Packet(&[12, 7, 0, 4]),
+            entries: &[Entry::Packet(&[7, 1, 0, 8, 12, 7, 0, 4])],
+            state: AutoState::Opened,
+        },
         // an Echo-Request, which is answered in Opened alone, and a Discard-Request
-        (
-            &opened,
-            Step::Packet(&[9, 5, 0, 8, 0xaa, 0xbb, 0xcc, 0xdd]),
-            &[EntryRef::Send(&[10, 5, 0, 8, 0, 0, 0, 4])],
-            AutoState::Opened,
-        ),
-        (
-            &[OPEN, UP],
-            Step::Packet(&[9, 5, 0, 8, 0xaa, 0xbb, 0xcc, 0xdd]),
-            &[],
-            AutoState::ReqSent,
-        ),
-        (
-            &opened,
-            Step::Packet(&[11, 5, 0, 8, 0xaa, 0xbb, 0xcc, 0xdd]),
-            &[],
-            AutoState::Opened,
-        ),
+        Case {
+            before: &opened,
+            step: Step::Packet(&[9, 5, 0, 8, 0xaa, 0xbb, 0xcc, 0xdd]),
+            entries: &[Entry::Packet(&[10, 5, 0, 8, 0, 0, 0, 4])],
+            state: AutoState::Opened,
+        },
+        Case {
+            before: &[OPEN, UP],
+            step: Step::Packet(&[9, 5, 0, 8, 0xaa, 0xbb, 0xcc, 0xdd]),
+            entries: &[],
+            state: AutoState::ReqSent,
+        },
+        Case {
+            before: &opened,
+            step: Step::Packet(&[11, 5, 0, 8, 0xaa, 0xbb, 0xcc, 0xdd]),
+            entries: &[],
+            state: AutoState::Opened,
+        },
         // rejects of a protocol, of a code that can be missed, and of one that can't
-        (
-            &opened,
-            Step::Packet(&[8, 1, 0, 6, 0xc0, 0x23]),
-            &[EntryRef::Signal(LayerSignal::ProtocolRejected(0xc023))],
-            AutoState::Opened,
-        ),
-        (
-            &opened,
-            Step::Packet(&[7, 1, 0, 8, 12, 7, 0, 4]),
-            &[],
-            AutoState::Opened,
-        ),
-        (
-            &opened,
-            Step::Packet(&[7, 1, 0, 8, 1, 1, 0, 4]),
-            &[down, EntryRef::Send(&[5, 1, 0, 4])],
-            AutoState::Stopping,
-        ),
+        Case {
+            before: &opened,
+            step: Step::Packet(&[8, 1, 0, 6, 0xc0, 0x23]),
+            entries: &[Entry::Signal(LayerSignal::ProtocolRejected(0xc023))],
+            state: AutoState::Opened,
+        },
+        Case {
+            before: &opened,
+            step: Step::Packet(&[7, 1, 0, 8, 12, 7, 0, 4]),
+            entries: &[],
+            state: AutoState::Opened,
+        },
+        Case {
+            before: &opened,
+            step: Step::Packet(&[7, 1, 0, 8, 1, 1, 0, 4]),
+            entries: &[down, Entry::Packet(&[5, 1, 0, 4])],
+            state: AutoState::Stopping,
+        },
         // the peer and the administrator end it
-        (
-            &opened,
-            Step::Packet(TERMINATE),
-            &[down, EntryRef::Send(TERMINATE_ACK)],
-            AutoState::Stopping,
-        ),
-        (
-            &opened,
-            CLOSE,
-            &[down, EntryRef::Send(&[5, 1, 0, 4])],
-            AutoState::Closing,
-        ),
+        Case {
+            before: &opened,
+            step: Step::Packet(TERMINATE),
+            entries: &[down, Entry::Packet(TERMINATE_ACK)],
+            state: AutoState::Stopping,
+        },
+        Case {
+            before: &opened,
+            step: CLOSE,
+            entries: &[down, Entry::Packet(&[5, 1, 0, 4])],
+            state: AutoState::Closing,
+        },
     ];
-    for (before, step, entries, state) in rows {
+    for Case {
+        before,
+        step,
+        entries,
+        state,
+    } in cases {
         let mut automaton = end_after(before, &mut out);
         take(&mut automaton, step, WORD, &mut out);
         assert!(rt; has_exactly(&out, entries), "at {step:?} after {before:?}");
@@ -290,7 +310,7 @@ fn discards_what_is_cut_short_in_each_state(rt: HostRuntime) -> Result<(), Fail>
         Step::Packet(TERMINATE),
     );
     // steps, and the state after them
-    let ways: [(&[Step<'_>], AutoState); 10] = [
+    let ways: [(&[Step], AutoState); 10] = [
         (&[], AutoState::Initial),
         (&[OPEN], AutoState::Starting),
         (&[UP], AutoState::Closed),
@@ -344,7 +364,7 @@ fn gives_up_after_ten_requests(rt: HostRuntime) -> Result<(), Fail> {
         assert_eq!(rt; automaton.state(), AutoState::ReqSent);
         automaton.event(AutoEvent::Timeout, WORD, &mut out);
     }
-    let finished = EntryRef::Signal(LayerSignal::Finished);
+    let finished = Entry::Signal(LayerSignal::Finished);
     assert!(rt; has_exactly(&out, &[finished]), "the tenth timeout");
     assert_eq!(rt; automaton.state(), AutoState::Stopped);
     assert!(rt; !automaton.timer_on());
