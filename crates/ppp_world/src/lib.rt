@@ -20,6 +20,8 @@ pub use replaying::{Refusal, Replayed, replay};
 pub use world::World;
 
 #[cfg(test)]
+mod automaton_tests;
+#[cfg(test)]
 mod lcp_tests;
 #[cfg(test)]
 mod world_tests;
