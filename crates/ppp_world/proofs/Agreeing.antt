@@ -1,17 +1,17 @@
 -- In every state of a run that isn't refused two Opened ends agree.
 use Rattle.std.proofs.lemmas.Bool.{cases_lt}
 use Rattle.std.proofs.lemmas.List.{take_all}
-use Rattle.std.proofs.Common.{⊎_elim, inl, inr, ◌≡◌, ℕ, zero, suc, ◌+◌, ◌-◌, ◌≤◌, ◌<◌, Bool, true, false, List, [], ◌∷◌, ◌++◌, length, take, refl, sym, ap, subst, ◌∙◌, arith}
-use Rattle.std.specs.Prelude.{Option, Some, None, ◌⊎◌, ◌≢◌, ◌&&◌, nat_lt, if◌then◌else◌}
+use Rattle.std.proofs.Common.{inl, inr, ◌≡◌, ℕ, zero, suc, ◌+◌, ◌≤◌, ◌<◌, Bool, true, false, List, [], ◌∷◌, ◌++◌, length, take, refl, sym, ap, subst, arith}
+use Rattle.std.specs.Prelude.{Option, Some, None, ◌≢◌, ◌&&◌, nat_lt, if◌then◌else◌}
 use Rattle.std.proofs.lemmas.Bool.Decides.{nat_tests}
 use Rattle.ppp_auto.specs.Automaton.{is_opened}
 use Rattle.ppp_auto.specs.declared.state.AutoState.{AutoState}
 use Rattle.ppp_auto.proofs.Spans.{narrow_start}
 use Rattle.ppp_auto.specs.declared.state.AutoState.TheVariants.{Opened}
-use Rattle.ppp_auto.specs.Duet.{Duet, Marked, Setup, Event, Happening, Commands, SetsCap, RejectsProtocol, Delivers, Loses, Reboots, Side, A, B, happens, at_first, without, start, span_of, widest, Narrow}
-use Rattle.ppp_auto.specs.TwoEnds.{NarrowIfTaken, Agree}
+use Rattle.ppp_auto.specs.Duet.{Duet, Marked, Event, Happening, Commands, SetsCap, RejectsProtocol, Delivers, Loses, Reboots, Side, A, B, happens, at_first, without, start, span_of, widest, Narrow}
+use Rattle.ppp_auto.specs.TwoEnds.{NarrowIfTaken}
 use Rattle.ppp_auto.proofs.Reached.{Reached, reached_start, reached_on, agreement_at}
-use Rattle.ppp_world.specs.Lcp.{Sendable, IsUnknown, Allows, Compatible, lcp_table}
+use Rattle.ppp_world.specs.Lcp.{Sendable, IsUnknown, Allows, Compatible}
 use Rattle.ppp_world.specs.LcpLawful.{lcp_lawful}
 use Rattle.ppp_world.specs.LcpSettings.{IsRanged}
 use Rattle.ppp_world.specs.Steps.{Step, Happens, Reports, Rests, setup, default_settings, word_of, moved, next_delivery, within_room, queue_room, Width, too_wide, or_else, wide_of}

@@ -1,4 +1,4 @@
-use Rattle.std.proofs.Common.{◌≡◌, None, sym, ap, ◌∙◌}
+use Rattle.std.proofs.Common.{sym, ap, ◌∙◌}
 use Rattle.ppp_world.specs.Journal.{Journal}
 use Rattle.ppp_world.proofs.Agreeing.{led_agrees}
 use Rattle.ppp_world.proofs.Leading.{led_unless}
