@@ -1,7 +1,6 @@
 -- How faults and want of memory may bend a reply.
-use Rattle.std.specs.Prelude.{◌≡◌, ℕ, List, ◌++◌, ◌⊎◌, Option, Some, None, Result, Ok, Err, ⊤}
+use Rattle.std.specs.Prelude.{◌≡◌, ℕ, List, ◌⊎◌, Option, Some, None, Result, Ok, Err, ⊤}
 use Rattle.ppp_io.specs.Told.{PutsOn}
-use Rattle.ppp_io.specs.Causes.{Rose}
 use Rattle.ppp_cli.specs.Reply.{Reply, read_fault_line, configured_links}
 use Rattle.ppp_cli.specs.Writing.{PutsFront}
 use Rattle.ppp_cli.specs.declared.words.Command.{Command}

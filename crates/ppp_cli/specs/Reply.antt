@@ -14,7 +14,6 @@ use Rattle.ppp_script.specs.declared.fault.LineWhy.TheVariants as why
 use Rattle.ppp_script.specs.Lines.{settings_in, script_in}
 use Rattle.ppp_script.specs.Script.{Refusal, events_of}
 use Rattle.ppp_world.specs.Run.{Moment, run_of, report, Refused, refusal, before_refusal}
-use Rattle.ppp_world.specs.Steps.{Width}
 
 pub record Reply : Type 0 where
   pub status : Status

@@ -1,5 +1,5 @@
 -- The program's words.
-use Rattle.std.specs.Prelude.{ℕ, Bool, if◌then◌else◌, List, [], ◌∷◌, Option, Some, None, codes}
+use Rattle.std.specs.Prelude.{ℕ, if◌then◌else◌, List, [], ◌∷◌, Option, Some, None, codes}
 use Rattle.std.specs.Str.{bytes_eq}
 use Rattle.ppp_cli.specs.declared.words.Command.{Command}
 use Rattle.ppp_cli.specs.declared.words.Command.TheVariants.{Replay}

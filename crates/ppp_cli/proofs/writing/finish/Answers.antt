@@ -1,4 +1,4 @@
-use Rattle.std.proofs.Common.{arith, length, take, drop, inr, sym, ap, subst, ◌++◌, ◌∙◌, ◌≤◌, ◌+◌, length-drop, append-nil, refl, []}
+use Rattle.std.proofs.Common.{arith, take, drop, inr, length-drop, append-nil, refl, []}
 use Rattle.std.proofs.Math.Seq.{take-add}
 use Rattle.std.proofs.lemmas.List.{take-append-drop}
 use Rattle.ppp_io.proofs.InTurn.{PutsOn-append}
