@@ -6,7 +6,7 @@ use Rattle.std.specs.Prelude.{Option, Some, None, ◌≢◌, ◌&&◌, nat_lt, i
 use Rattle.std.proofs.lemmas.Bool.Decides.{nat_tests}
 use Rattle.ppp_auto.specs.Automaton.{is_opened}
 use Rattle.ppp_auto.specs.declared.state.AutoState.{AutoState}
-use Rattle.ppp_auto.proofs.Spans.{narrow_start}
+use Rattle.ppp_auto.proofs.Spans.{narrow_start, narrow_still}
 use Rattle.ppp_auto.specs.declared.state.AutoState.TheVariants.{Opened}
 use Rattle.ppp_auto.specs.Duet.{Duet, Marked, Event, Happening, Commands, SetsCap, RejectsProtocol, Delivers, Loses, Reboots, Side, A, B, happens, at_first, without, start, span_of, widest, Narrow}
 use Rattle.ppp_auto.specs.TwoEnds.{NarrowIfTaken}
@@ -69,27 +69,29 @@ same_b : (d : Duet) → trimmed_b (record d { to_b = without (suc queue_room) d.
 unfolding trimmed_b
 same_b d = ap (λ (q : List Marked). record d { to_b = q }) (without_behind queue_room d.to_b)
 
-reached_a : (more : ℕ) (d : Duet) → length d.to_a ≤ queue_room + more → Reached setup setup d → Reached setup setup (trimmed_a d)
-reached_a zero d fits r = subst (Reached setup setup) (sym (fits_a d (omega arith))) r
-reached_a (suc more) d fits r =
-    elim (cases_lt queue_room (length d.to_a)) [
-      | inr short ↦ subst (Reached setup setup) (sym (fits_a d short)) r
-      | inl long ↦
-          let shorter = without_shorter queue_room d.to_a long in
-          let one = subst (Reached setup setup) (lost_a d) (reached_on setup setup d (loss A) tt r) in
-          subst (Reached setup setup) (same_a d) (reached_a more (record d { to_a = without (suc queue_room) d.to_a }) (omega (arith, shorter)) one)
-    ]
+-- what a loss keeps, the loss of all that has no room keeps
+module _ (P : Duet → Type 0) (kept : (side : Side) (d : Duet) → P d → P (happens setup setup d (loss side))) where
+  through_a : (more : ℕ) (d : Duet) → length d.to_a ≤ queue_room + more → P d → P (trimmed_a d)
+  through_a zero d fits p = subst P (sym (fits_a d (omega arith))) p
+  through_a (suc more) d fits p =
+      elim (cases_lt queue_room (length d.to_a)) [
+        | inr short ↦ subst P (sym (fits_a d short)) p
+        | inl long ↦
+            let shorter = without_shorter queue_room d.to_a long in
+            let one = subst P (lost_a d) (kept A d p) in
+            subst P (same_a d) (through_a more (record d { to_a = without (suc queue_room) d.to_a }) (omega (arith, shorter)) one)
+      ]
 
-reached_b : (more : ℕ) (d : Duet) → length d.to_b ≤ queue_room + more → Reached setup setup d → Reached setup setup (trimmed_b d)
-reached_b zero d fits r = subst (Reached setup setup) (sym (fits_b d (omega arith))) r
-reached_b (suc more) d fits r =
-    elim (cases_lt queue_room (length d.to_b)) [
-      | inr short ↦ subst (Reached setup setup) (sym (fits_b d short)) r
-      | inl long ↦
-          let shorter = without_shorter queue_room d.to_b long in
-          let one = subst (Reached setup setup) (lost_b d) (reached_on setup setup d (loss B) tt r) in
-          subst (Reached setup setup) (same_b d) (reached_b more (record d { to_b = without (suc queue_room) d.to_b }) (omega (arith, shorter)) one)
-    ]
+  through_b : (more : ℕ) (d : Duet) → length d.to_b ≤ queue_room + more → P d → P (trimmed_b d)
+  through_b zero d fits p = subst P (sym (fits_b d (omega arith))) p
+  through_b (suc more) d fits p =
+      elim (cases_lt queue_room (length d.to_b)) [
+        | inr short ↦ subst P (sym (fits_b d short)) p
+        | inl long ↦
+            let shorter = without_shorter queue_room d.to_b long in
+            let one = subst P (lost_b d) (kept B d p) in
+            subst P (same_b d) (through_b more (record d { to_b = without (suc queue_room) d.to_b }) (omega (arith, shorter)) one)
+      ]
 
 trimmed : (d : Duet) → trimmed_b (trimmed_a d) ≡ within_room d
 unfolding trimmed_a trimmed_b within_room
@@ -99,10 +101,13 @@ kept_b : (d : Duet) → (trimmed_a d).to_b ≡ d.to_b
 unfolding trimmed_a
 kept_b d = refl
 
+through_room : (P : Duet → Type 0) → ((side : Side) (d : Duet) → P d → P (happens setup setup d (loss side))) → (d : Duet) → P d → P (within_room d)
+through_room P kept d p =
+    let one = through_a P kept (length d.to_a) d (omega arith) p in
+    subst P (trimmed d) (through_b P kept (length d.to_b) (trimmed_a d) (rw kept_b (omega arith)) one)
+
 reached_within : (d : Duet) → Reached setup setup d → Reached setup setup (within_room d)
-reached_within d r =
-    let one = reached_a (length d.to_a) d (omega arith) r in
-    subst (Reached setup setup) (trimmed d) (reached_b (length d.to_b) (trimmed_a d) (rw kept_b (omega arith)) one)
+reached_within = through_room (Reached setup setup) (λ side d r. reached_on setup setup d (loss side) tt r)
 
 -- a state in which no span is too wide is narrow
 fits_unless : (span : ℕ) → nat_lt widest span ≡ false → span ≤ widest
@@ -208,6 +213,44 @@ none_disagrees (m ∷ ms) h = (never_disagrees m.after h.0, none_disagrees ms h.
 -- a step that isn't refused leads on
 pub led_on : (k : ℕ) (d after : Duet) (step : Step) → IsLed d → after ≡ moved k d step → wide_of after ≡ None → IsLed after
 led_on k d after step led is none = record { reached = rw is (reached_step k d step led.narrow led.reached); narrow = narrow_of after none }
+
+-- Where no end has sent a request since, no span has become too wide.
+loss_sends : (side : Side) (d : Duet) → ((happens setup setup d (loss side)).a.n ≡ d.a.n) × ((happens setup setup d (loss side)).b.n ≡ d.b.n)
+unfolding at_first
+loss_sends A d = (refl, refl)
+loss_sends B d = (refl, refl)
+
+narrow_within : (d : Duet) → Narrow d → Narrow (within_room d)
+narrow_within = through_room Narrow (λ side d narrow. let same = loss_sends side d in narrow_still setup setup d (loss side) (omega (arith, same.0)) (omega (arith, same.1)) narrow)
+
+room_sends : (d : Duet) → ((within_room d).a.n ≡ d.a.n) × ((within_room d).b.n ≡ d.b.n)
+unfolding within_room
+room_sends d = (refl, refl)
+
+wider : (span : ℕ) → nat_lt widest span ≡ true → span ≤ widest → ⊥
+wider span is fits = grind (arith, nat_tests)
+
+none_if : (wide : Bool) (width : Width) (span : ℕ) → nat_lt widest span ≡ wide → span ≤ widest → (if wide then Some width else None) ≡ None
+none_if true width span is fits = absurd (wider span is fits)
+none_if false width span is fits = refl
+
+fits_none : (e : End) (n : ℕ) (out back : List Marked) → span_of n out back ≤ widest → too_wide e n out back ≡ None
+fits_none e n out back fits = none_if (nat_lt widest (span_of n out back)) _ (span_of n out back) refl fits
+
+wide_none : (d : Duet) → Narrow d → wide_of d ≡ None
+wide_none d narrow = rw (fits_none end.A d.a.n d.to_b d.to_a narrow.of_a) (fits_none end.B d.b.n d.to_a d.to_b narrow.of_b)
+
+still_step : (k : ℕ) (d : Duet) (step : Step) → Narrow d → (moved k d step).a.n ≤ d.a.n → (moved k d step).b.n ≤ d.b.n → wide_of (moved k d step) ≡ None
+still_step k d (Happens at what) narrow a b =
+    let event : Event = record { side = at; what = what; word = word_of at k } in
+    let same = room_sends (happens setup setup d event) in
+    wide_none _ (narrow_within (happens setup setup d event) (narrow_still setup setup d event (omega (arith, same.0)) (omega (arith, same.1)) narrow))
+still_step k d Reports narrow a b = wide_none d narrow
+still_step k d Rests narrow a b = wide_none d narrow
+
+pub still_none : (k : ℕ) (d after : Duet) (step : Step) → IsLed d → after ≡ moved k d step → after.a.n ≤ d.a.n → after.b.n ≤ d.b.n → wide_of after ≡ None
+still_none k d after step led is a b =
+    rw is (still_step k d step led.narrow (subst (λ (x : Duet). x.a.n ≤ d.a.n) is a) (subst (λ (x : Duet). x.b.n ≤ d.b.n) is b))
 
 pub led_start : IsLed (start setup setup)
 led_start = record { reached = reached_start setup setup; narrow = narrow_start setup setup }

@@ -4,6 +4,7 @@ ghost use Rattle.std.specs.Prelude.{◌≡◌, IsTrue};
 ghost use Rattle.ppp_packet.specs.Readings.{option_in};
 ghost use Rattle.ppp_auto.specs.declared.verdict.Verdict.TheVariants.{Good};
 
+use crate::laws::hold_of_lcp;
 use crate::lcp::LcpTable;
 use ppp_auto::{OptionTable, Verdict};
 use ppp_packet::{OptList, OptRef, Options, read_options};
@@ -126,4 +127,9 @@ fn leaves_out_what_is_rejected(rt: HostRuntime) {
         let list = table.adapt_reject(&table.initial(4), &reject, 4);
         assert_eq!(rt; list.octets(), wanted);
     }
+}
+
+#[test]
+fn both_laws_hold_of_the_table() {
+    hold_of_lcp(&LcpTable::new(1500, true), &LcpTable::new(1024, false));
 }

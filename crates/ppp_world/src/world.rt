@@ -1,20 +1,20 @@
 //! The world of a script.
 
-ghost use Rattle.std.specs.Prelude.{◌≡◌, ◌≢◌, ◌↔◌, ◌+◌, ◌≤◌, ◌++◌, false, IsNone, IsSome, OnOk, IfOk, None, Some};
+ghost use Rattle.std.specs.Prelude.{◌≡◌, ◌≢◌, ◌↔◌, ◌+◌, ◌≤◌, ◌++◌, false, IsNone, IsSome, OnOk, IfOk, None, Some, option_map};
 ghost use Rattle.ppp_script.specs.Events.{steps_in};
 ghost use Rattle.ppp_world.specs.Agreed.{agree_on, AreOpened};
 ghost use Rattle.ppp_world.specs.Halts.{answer_of, halt_in, UnlessMemory, IsCounted};
 ghost use Rattle.ppp_world.specs.Journal.{begun_journal, journal_after, takes_step, does_step, settled};
 ghost use Rattle.ppp_world.specs.Led.{IsLed};
 ghost use Rattle.ppp_world.specs.Run.{shown};
-ghost use Rattle.ppp_world.specs.StepViews.{step_seen};
-ghost use Rattle.ppp_world.specs.Steps.{moved, side_of, word_of};
+ghost use Rattle.ppp_world.specs.StepViews.{step_seen, width_seen};
+ghost use Rattle.ppp_world.specs.Steps.{moved, side_of, wide_of, word_of};
 
 use crate::agreement::agree;
 use crate::fault::{Halt, WorldFault};
 use crate::report::write_show;
 use crate::step::{ONLY_LINK, Step};
-use crate::two_ends::TwoEnds;
+use crate::two_ends::{TwoEnds, Width};
 use ppp_auto::Memory;
 use ppp_packet::Proto;
 use ppp_script::{End, Event};
@@ -164,11 +164,13 @@ fn go(
     ensures steps { steps.new ≤ steps.old + 1 }
 {
     let number = *steps + 1;
+    let sent_a = ends.a().sent();
+    let sent_b = ends.b().sent();
     match advance(ends, number, step) {
         Ok(()) => {}
         Err(Memory) => return Err(Halt::Memory),
     }
-    if let Some(width) = ends.too_wide() {
+    if let Some(width) = wider_since(ends, sent_a, sent_b) {
         return Err(Halt::TooWide(width));
     }
     match show(report, number, step, ends, alloc) {
@@ -177,6 +179,18 @@ fn go(
     }
     *steps = number;
     Ok(())
+}
+
+/// A span that is too wide, where one can have become so: no span becomes wider where its end sends no request.
+fn wider_since(ends: &TwoEnds, sent_a: u64, sent_b: u64) -> Option<Width>
+    requires { ends.now.a.n ≤ sent_a → ends.now.b.n ≤ sent_b → wide_of ends.now ≡ None }
+    ensures { option_map width_seen result ≡ wide_of ends.now }
+{
+    if ends.a().sent() <= sent_a && ends.b().sent() <= sent_b {
+        None
+    } else {
+        ends.too_wide()
+    }
 }
 
 /// Does the step of that number.
