@@ -20,7 +20,8 @@ mod verdict;
 
 pub use automaton::Automaton;
 pub use layer_signal::LayerSignal;
-pub use outbox::{EntryRef, Memory, Outbox};
+pub use outbox::{EntryRef, Outbox};
+pub use ppp_memory::Memory;
 pub use row::{Action, Input};
 pub use state::{AutoEvent, AutoState};
 pub use table::OptionTable;

@@ -6,21 +6,16 @@ ghost use Rattle.ppp_auto.specs.Entries.{entry_lent, entry_kept, AreWithin, IsSh
 
 use crate::layer_signal::LayerSignal;
 use arrayvec::ArrayVec;
+use ppp_memory::Memory;
 use ppp_packet::write_packet;
 use std::alloc::Global;
 use std::marker::Model;
-use thiserror::Error;
 
 /// The most octets that a packet in an outbox has.
 const MOST_OCTETS: usize = 1500;
 
 /// The octets that an outbox holds: four packets.
 const CAPACITY: usize = 6000;
-
-/// There is no memory for an outbox.
-#[derive(Debug, Drop, Error)]
-#[error("out of memory")]
-pub struct Memory;
 
 /// An entry of an outbox: a whole packet to send, or a signal to the layers beside.
 #[derive(Clone, Copy)]

@@ -77,7 +77,7 @@ fn answer_script(alloc: Global, script: &Script) -> Result<Reply, Memory>
     ensures reply { IfOk result (λ reply. told reply ≡ reply_to_events (Ok script.now)) }
     ensures plain { IfOk result (λ reply. IsPlain reply.status) }
 {
-    let replayed = replay(alloc, script).map_err(|_| Memory)?;
+    let replayed = replay(alloc, script)?;
     let mut octets = replayed.report;
     match replayed.refused {
         None => Ok(Reply {

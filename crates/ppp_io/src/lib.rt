@@ -2,14 +2,13 @@
 //! its count rose in that call or stands there.
 #![tactic(auto)]
 
-mod errors;
 mod octets;
 mod sinks;
 mod sources;
 mod standard;
 mod traits;
 
-pub use errors::Memory;
+pub use ppp_memory::Memory;
 pub use sinks::{MemSink, SureSink};
 pub use sources::{MemSource, SureSource};
 pub use standard::{StdSink, StdSource};

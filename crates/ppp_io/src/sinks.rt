@@ -3,9 +3,9 @@ ghost use Rattle.ppp_io.specs.Causes.{HasCause, one_more};
 ghost use Rattle.ppp_io.specs.InMemory.{told_by_sure_sink};
 ghost use Rattle.ppp_io.specs.Writes.{WriteWithin, WritePuts, WriteFits, faults_after_write};
 
-use crate::errors::Memory;
 use crate::octets::{is_listed, keep};
 use crate::traits::{Sink, Wrote};
+use ppp_memory::Memory;
 use std::alloc::Global;
 use std::marker::Model;
 

@@ -1,3 +1,6 @@
+//! Want of memory, the one answer that every layer may give.
+#![tactic(auto)]
+
 use std::alloc::{AllocError, AllocFailed};
 use thiserror::Error;
 
