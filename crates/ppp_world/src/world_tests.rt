@@ -1,5 +1,7 @@
 //! Scripts that were worked out by hand, and a world stepped event by event.
 
+ghost use Rattle.std.specs.Prelude.{◌≡◌, None};
+
 use crate::{Refusal, World, WorldFault, replay};
 use ppp_packet::Proto;
 use ppp_script::{End, Event, read_script, steps_of};
@@ -122,4 +124,29 @@ fn replays_up_to_the_refused_step(rt: HostRuntime) {
         })
     );
     assert!(rt; replayed.report.is_empty());
+}
+
+/// Does the steps of an event, none of which is refused.
+fn done(rt: &impl Abort, world: &mut World, event: &Event)
+    ensures { world.new.halt ≡ None }
+{
+    assert!(rt; world.steps() <= 90_000 && steps_of(event) <= 1_000);
+    match world.step(event) {
+        Ok(()) => {}
+        Err(_) => panic!(rt; "a step was refused"),
+    }
+}
+
+#[test]
+fn two_opened_ends_agree(rt: HostRuntime) {
+    let mut world = World::new(rt.alloc()).expect(&rt, "memory");
+    assert_eq!(rt; world.agree(1, Proto::Lcp), None);
+    done(&rt, &mut world, &Event::Up(End::A, 1));
+    done(&rt, &mut world, &Event::AdminOpen(End::A, 1, Proto::Lcp));
+    done(&rt, &mut world, &Event::Up(End::B, 1));
+    done(&rt, &mut world, &Event::AdminOpen(End::B, 1, Proto::Lcp));
+    done(&rt, &mut world, &Event::Settle(6));
+    assert_eq!(rt; world.agree(1, Proto::Lcp), Some(true));
+    assert_eq!(rt; world.agree(1, Proto::Ip), None);
+    assert_eq!(rt; world.agree(2, Proto::Lcp), None);
 }
