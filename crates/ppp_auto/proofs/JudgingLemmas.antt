@@ -10,7 +10,7 @@ use Rattle.ppp_packet.specs.ConfigOption.{ConfigOption}
 use Rattle.ppp_packet.specs.Options.{written, option_octets}
 use Rattle.ppp_auto.specs.declared.verdict.Verdict.{Verdict}
 use Rattle.ppp_auto.specs.declared.verdict.Verdict.TheVariants.{Good, Bad, Unknown}
-use Rattle.ppp_auto.specs.Judging.{has_kind, is_refused, rejected, suggested, unacceptable, better_of, bad_of, fitting, has_options, reject_room}
+use Rattle.ppp_auto.specs.Reply.{has_kind, is_refused, rejected, suggested, unacceptable, better_of, bad_of, fitting, has_options, reject_room}
 use Rattle.ppp_auto.specs.Putting.{PutsIf}
 
 -- the kinds that were seen are those of the options so far

@@ -10,10 +10,10 @@ use Rattle.ppp_packet.specs.ConfigOption.{ConfigOption}
 use Rattle.ppp_packet.specs.Options.{written, option_octets, list_of}
 use Rattle.ppp_auto.specs.declared.verdict.Verdict.{Verdict}
 use Rattle.ppp_auto.specs.declared.verdict.Verdict.TheVariants.{Good, Bad, Unknown}
-use Rattle.ppp_auto.specs.Judging.{has_kind, is_refused, rejected, suggested, better_of, as_list, fitting, has_options, reject_room, max_failure, reply_with}
+use Rattle.ppp_auto.specs.Reply.{has_kind, is_refused, rejected, suggested, better_of, as_list, fitting, has_options, reject_room, max_failure, reply_with}
 use Rattle.ppp_auto.specs.Lawful.{Lawful, Passes, AllGood, NoneTwice}
-use Rattle.ppp_auto.specs.Packets.{Packet, Ack, Nak, Reject}
-use Rattle.ppp_auto.specs.Table.{Table}
+use Rattle.ppp_auto.specs.Packet.{Packet, Ack, Nak, Reject}
+use Rattle.ppp_auto.specs.OptionTable.{Table}
 use Rattle.ppp_auto.specs.Views.{judging_by}
 
 over-leb : (a b : ℕ) → b < a → nat_le a b ≡ false

@@ -3,7 +3,7 @@ use Rattle.std.specs.Prelude.{◌≡◌, ℕ, ◌==◌, if◌then◌else◌, Lis
 use Rattle.ppp_packet.specs.Options.{list_of}
 use Rattle.ppp_packet.specs.Packet.{packet_octets}
 use Rattle.ppp_auto.specs.declared.answer.Answer.TheInside.{Inside}
-use Rattle.ppp_auto.specs.Packets.{Packet, Request, Ack, Nak, Reject, Other, octets_of}
+use Rattle.ppp_auto.specs.Packet.{Packet, Request, Ack, Nak, Reject, Other, octets_of}
 
 -- the packet of these octets behind the header, whose options can be read
 abbrev pub packet_as : ℕ → ℕ → List ℕ → Packet

@@ -2,20 +2,20 @@
 use Rattle.std.specs.Prelude.{ℕ, ◌+◌, ◌-◌, ◌*◌, ◌/◌, ◌%◌, ◌^◌, min, Bool, true, false, ◌&&◌, ◌||◌, ◌==◌, nat_lt, nat_le, if◌then◌else◌, List, [], ◌∷◌, ◌++◌, map, length, take, drop, Option, Some, None}
 use Rattle.ppp_packet.specs.ConfigOption.{ConfigOption}
 use Rattle.ppp_packet.specs.Packet.{packet_octets}
-use Rattle.ppp_auto.specs.declared.state.AutoState.{AutoState}
-use Rattle.ppp_auto.specs.declared.state.AutoState.TheVariants.{Initial, Starting, Closed, Stopped, Closing, Stopping, ReqSent, AckRcvd, AckSent, Opened}
-use Rattle.ppp_auto.specs.declared.state.AutoEvent.{AutoEvent}
-use Rattle.ppp_auto.specs.declared.state.AutoEvent.TheVariants as event
+use Rattle.ppp_auto.specs.declared.auto_state.AutoState.{AutoState}
+use Rattle.ppp_auto.specs.declared.auto_state.AutoState.TheVariants.{Initial, Starting, Closed, Stopped, Closing, Stopping, ReqSent, AckRcvd, AckSent, Opened}
+use Rattle.ppp_auto.specs.declared.auto_event.AutoEvent.{AutoEvent}
+use Rattle.ppp_auto.specs.declared.auto_event.AutoEvent.TheVariants as event
 use Rattle.ppp_auto.specs.declared.layer_signal.LayerSignal.{LayerSignal}
 use Rattle.ppp_auto.specs.declared.layer_signal.LayerSignal.TheVariants as signal
-use Rattle.ppp_auto.specs.declared.row.Input.{Input}
-use Rattle.ppp_auto.specs.declared.row.Input.TheVariants as on
-use Rattle.ppp_auto.specs.declared.row.Action.{Action}
-use Rattle.ppp_auto.specs.declared.row.Action.TheVariants.{ThisUp, ThisDown, ThisStarted, ThisFinished, InitRestart, ZeroRestart, SendRequest, RepeatRequest, SendAck, SendNak, SendTerminate, SendTerminateAck, SendCodeReject, SendEchoReply}
-use Rattle.ppp_auto.specs.Judging.{same_list, is_sublist, has_options, Reply, reply_to, max_failure}
-use Rattle.ppp_auto.specs.Packets.{Packet, Request, Ack, Nak, Reject, Other, octets_of, packet_of}
-use Rattle.ppp_auto.specs.Rows.{Row, row_of, asks, acks, refuses, draws, restart_after}
-use Rattle.ppp_auto.specs.Table.{Table}
+use Rattle.ppp_auto.specs.declared.input.Input.{Input}
+use Rattle.ppp_auto.specs.declared.input.Input.TheVariants as on
+use Rattle.ppp_auto.specs.declared.action.Action.{Action}
+use Rattle.ppp_auto.specs.declared.action.Action.TheVariants.{ThisLayerUp, ThisLayerDown, ThisLayerStarted, ThisLayerFinished, InitializeRestartCount, ZeroRestartCount, SendConfigureRequest, RepeatConfigureRequest, SendConfigureAck, SendConfigureNak, SendTerminateRequest, SendTerminateAck, SendCodeReject, SendEchoReply}
+use Rattle.ppp_auto.specs.Reply.{same_list, is_sublist, has_options, Reply, reply_to, max_failure}
+use Rattle.ppp_auto.specs.Packet.{Packet, Request, Ack, Nak, Reject, Other, octets_of, packet_of}
+use Rattle.ppp_auto.specs.EventTable.{Cell, cell_of, asks, acks, refuses, draws, restart_after}
+use Rattle.ppp_auto.specs.OptionTable.{Table}
 
 pub record Auto : Type 0 where
   pub state : AutoState
@@ -113,12 +113,12 @@ abbrev pub is_reject_of : Auto → ℕ → List ConfigOption → Bool
 is_reject_of a id options = has_options options && (is_idle a.state || ((id == last_id a) && is_sublist options a.own))
 
 abbrev pub nak_taken : Auto → Bool → ℕ → List ConfigOption → Taken
-nak_taken a counts id adapted = if counts then record (taken_as a (Some on.NakCame) id) { adapted = adapted } else taken_as a None id
+nak_taken a counts id adapted = if counts then record (taken_as a (Some on.ReceiveConfigureNak) id) { adapted = adapted } else taken_as a None id
 
 -- A Code-Reject is borne where the code isn't one that every automaton needs.
 abbrev pub code_reject_input : List ℕ → Option Input
 code_reject_input [] = None
-code_reject_input (code ∷ rest) = Some (if nat_le 1 code && nat_le code 7 then on.RejectedBadly else on.RejectedWell)
+code_reject_input (code ∷ rest) = Some (if nat_le 1 code && nat_le code 7 then on.ReceiveRejectCatastrophic else on.ReceiveRejectPermitted)
 
 -- the protocol at the front of a Protocol-Reject
 abbrev pub rejected_protocol : AutoState → List ℕ → Option ℕ
@@ -137,14 +137,14 @@ echo_answer t a code id octets =
     else None
 
 abbrev pub unknown_taken : Auto → ℕ → ℕ → List ℕ → Taken
-unknown_taken a code id octets = record (taken_as a (Some on.UnknownCode) id) { whole = packet_octets code id octets }
+unknown_taken a code id octets = record (taken_as a (Some on.ReceiveUnknownCode) id) { whole = packet_octets code id octets }
 
 -- the codes that only LCP knows
 abbrev pub extended_taken : Table → Auto → ℕ → ℕ → List ℕ → Taken
 extended_taken t a code id octets =
     if code == 8 then record (taken_as a None id) { rejects = rejected_protocol a.state octets }
     else if nat_lt (length octets) 4 then taken_as a None id
-    else record (taken_as a (Some on.EchoCame) id) { answer = echo_answer t a code id octets }
+    else record (taken_as a (Some on.ReceiveEcho) id) { answer = echo_answer t a code id octets }
 
 abbrev pub is_extended_code : ℕ → Bool
 is_extended_code code = nat_le 8 code && nat_le code 11
@@ -152,12 +152,12 @@ is_extended_code code = nat_le 8 code && nat_le code 11
 -- What a packet is.
 abbrev pub kind : Table → Auto → Packet → ℕ → Taken
 kind t a (Request id theirs) word = request_taken a id theirs (reply_to t (judging t a word) a.naks word id theirs)
-kind t a (Ack id options) word = taken_as a (if is_ack_of a id options then Some on.AckCame else None) id
+kind t a (Ack id options) word = taken_as a (if is_ack_of a id options then Some on.ReceiveConfigureAck else None) id
 kind t a (Nak id options) word = nak_taken a (is_nak_of a id options) id (t.adapt_nak a.own options word)
 kind t a (Reject id options) word = nak_taken a (is_reject_of a id options) id (t.adapt_reject a.own options word)
 kind t a (Other code id octets) word =
-    if code == 5 then taken_as a (Some on.TerminateRequestCame) id
-    else if code == 6 then taken_as a (Some on.TerminateAckCame) id
+    if code == 5 then taken_as a (Some on.ReceiveTerminateRequest) id
+    else if code == 6 then taken_as a (Some on.ReceiveTerminateAck) id
     else if code == 7 then taken_as a (code_reject_input octets) id
     else if t.extended && is_extended_code code then extended_taken t a code id octets
     else unknown_taken a code id octets
@@ -168,9 +168,9 @@ input_of a event.Up = on.Up
 input_of a event.Down = on.Down
 input_of a event.AdminOpen = on.Open
 input_of a event.AdminClose = on.Close
-input_of a event.Timeout = if nat_lt 0 a.restart then on.TimeoutAgain else on.TimeoutLast
-input_of a event.RejectedWell = on.RejectedWell
-input_of a event.RejectedBadly = on.RejectedBadly
+input_of a event.Timeout = if nat_lt 0 a.restart then on.TimeoutAboveZero else on.TimeoutExpired
+input_of a event.RejectedWell = on.ReceiveRejectPermitted
+input_of a event.RejectedBadly = on.ReceiveRejectCatastrophic
 
 -- whether Configure-Naks are counted anew: the line came up
 abbrev pub counts_anew : Input → AutoState → Bool
@@ -189,7 +189,7 @@ naks_after a input actions taken =
     else if refuses actions && is_nak taken.answer then min (a.naks + 1) max_failure
     else a.naks
 
-abbrev pub after : Table → Auto → Input → Row → Taken → ℕ → Auto
+abbrev pub after : Table → Auto → Input → Cell → Taken → ℕ → Auto
 after t a input row taken word = record {
   state = row.next;
   restart = restart_after row.actions a.restart;
@@ -207,17 +207,17 @@ answering (Some packet) = Sends packet ∷ []
 
 -- what an action does, between the end before the row and after it
 abbrev pub effect_of : Auto → Auto → Taken → Action → List Effect
-effect_of old new taken ThisUp = Tells signal.Up ∷ []
-effect_of old new taken ThisDown = Tells signal.Down ∷ []
-effect_of old new taken ThisStarted = Tells signal.Started ∷ []
-effect_of old new taken ThisFinished = Tells signal.Finished ∷ []
-effect_of old new taken InitRestart = []
-effect_of old new taken ZeroRestart = []
-effect_of old new taken SendRequest = Sends (Request (last_id new) new.own) ∷ []
-effect_of old new taken RepeatRequest = Sends (Request (last_id new) new.own) ∷ []
-effect_of old new taken SendAck = answering taken.answer
-effect_of old new taken SendNak = answering taken.answer
-effect_of old new taken SendTerminate = Sends (Other 5 old.second []) ∷ []
+effect_of old new taken ThisLayerUp = Tells signal.Up ∷ []
+effect_of old new taken ThisLayerDown = Tells signal.Down ∷ []
+effect_of old new taken ThisLayerStarted = Tells signal.Started ∷ []
+effect_of old new taken ThisLayerFinished = Tells signal.Finished ∷ []
+effect_of old new taken InitializeRestartCount = []
+effect_of old new taken ZeroRestartCount = []
+effect_of old new taken SendConfigureRequest = Sends (Request (last_id new) new.own) ∷ []
+effect_of old new taken RepeatConfigureRequest = Sends (Request (last_id new) new.own) ∷ []
+effect_of old new taken SendConfigureAck = answering taken.answer
+effect_of old new taken SendConfigureNak = answering taken.answer
+effect_of old new taken SendTerminateRequest = Sends (Other 5 old.second []) ∷ []
 effect_of old new taken SendTerminateAck = Sends (Other 6 taken.id []) ∷ []
 effect_of old new taken SendCodeReject = Sends (Other 7 old.second (take (old.cap - 4) taken.whole)) ∷ []
 effect_of old new taken SendEchoReply = answering taken.answer
@@ -234,7 +234,7 @@ pub record Acted : Type 0 where
 -- a row of the event table
 unfoldable pub does_row : Table → Auto → Input → Taken → ℕ → Acted
 does_row t a input taken word =
-    let row = row_of input a.state in
+    let row = cell_of input a.state in
     let new = after t a input row taken word in
     record { auto = new; effects = effects a new taken row.actions }
 

@@ -5,7 +5,7 @@ use Rattle.ppp_packet.specs.ConfigOption.{ConfigOption}
 use Rattle.ppp_packet.specs.Options.{written}
 use Rattle.ppp_auto.specs.declared.verdict.Verdict.TheVariants.{Good, Bad, Unknown}
 use Rattle.ppp_auto.specs.Lawful.{Lawful, Passes, AllGood}
-use Rattle.ppp_auto.specs.Table.{Table}
+use Rattle.ppp_auto.specs.OptionTable.{Table}
 
 abbrev pub bare : Bool → Table
 bare extended = record {

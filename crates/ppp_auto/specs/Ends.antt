@@ -4,9 +4,9 @@ use Rattle.std.specs.Option.{option_to_list, unwrap_or}
 use Rattle.ppp_packet.specs.ConfigOption.{ConfigOption}
 use Rattle.ppp_auto.specs.declared.end.End.{End}
 use Rattle.ppp_auto.specs.declared.end.Incoming.{Incoming}
-use Rattle.ppp_auto.specs.declared.row.Action.{Action}
+use Rattle.ppp_auto.specs.declared.action.Action.{Action}
 use Rattle.ppp_auto.specs.Automaton.{Auto, Taken, Acted, Entry, acts_on, effects, entry_of}
-use Rattle.ppp_auto.specs.Table.{Table}
+use Rattle.ppp_auto.specs.OptionTable.{Table}
 
 abbrev pub auto_of : End → Auto
 auto_of e = record { state = e.state; restart = e.restart; naks = e.naks; next_id = e.next_id; second = e.second; own = e.own; peer = e.peer; cap = e.cap }

@@ -4,8 +4,8 @@ use Rattle.std.specs.List.{list_any}
 use Rattle.ppp_packet.specs.ConfigOption.{ConfigOption}
 use Rattle.ppp_packet.specs.Options.{written}
 use Rattle.ppp_auto.specs.declared.verdict.Verdict.TheVariants.{Good, Bad, Unknown}
-use Rattle.ppp_auto.specs.Judging.{has_kind}
-use Rattle.ppp_auto.specs.Table.{Table}
+use Rattle.ppp_auto.specs.Reply.{has_kind}
+use Rattle.ppp_auto.specs.OptionTable.{Table}
 
 -- each option is good against the own list
 abbrev pub AllGood : Table → List ConfigOption → ℕ → List ConfigOption → Type 0

@@ -2,7 +2,7 @@
 use Rattle.std.specs.Prelude.{◌≡◌, ℕ, ◌+◌, ◌<◌, ◌≤◌, Bool, true, false, List, ◌++◌, length}
 use Rattle.ppp_packet.specs.ConfigOption.{ConfigOption}
 use Rattle.ppp_packet.specs.Options.{option_octets}
-use Rattle.ppp_auto.specs.Judging.{reject_room}
+use Rattle.ppp_auto.specs.Reply.{reject_room}
 
 -- the option is put where it is wanted and fits: false where it is wanted and doesn't
 abbrev pub PutsIf : List ℕ → List ℕ → Bool → ConfigOption → Bool → Type 0

@@ -2,7 +2,7 @@
 
 ghost use Rattle.std.specs.Prelude.{◌≡◌, ◌<◌, ◌≤◌, length, ◌++◌, ◌∷◌, [], Some};
 ghost use Rattle.ppp_packet.specs.Options.{HoldsOptions, list_of};
-ghost use Rattle.ppp_auto.specs.Packets.{Ack, Nak, Reject, Other, octets_of};
+ghost use Rattle.ppp_auto.specs.Packet.{Ack, Nak, Reject, Other, octets_of};
 ghost use Rattle.ppp_auto.specs.Automaton.{is_nak, Send};
 
 use crate::code::{CONFIGURE_ACK, CONFIGURE_NAK, CONFIGURE_REJECT, ECHO_REPLY};
@@ -25,7 +25,7 @@ pub(crate) struct Answer {
 }
 
 impl Model for Answer {
-    ghost use Rattle.ppp_auto.specs.Packets.{Packet};
+    ghost use Rattle.ppp_auto.specs.Packet.{Packet};
 
     ghost Value = { Packet };
 

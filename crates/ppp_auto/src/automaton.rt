@@ -3,11 +3,12 @@
 ghost use Rattle.std.specs.Prelude.{◌≡◌, ◌≤◌, option_map};
 ghost use Rattle.ppp_auto.specs.Automaton.{begun, command, entries_of, is_timed, mine_of, peer_of, take_octets};
 
+use crate::auto_event::AutoEvent;
+use crate::auto_state::AutoState;
 use crate::end::{End, first_list};
+use crate::option_table::OptionTable;
 use crate::outbox::Outbox;
 use crate::receive::{take_event, take_packet};
-use crate::state::{AutoEvent, AutoState};
-use crate::table::OptionTable;
 use ppp_packet::OptList;
 use std::marker::Model;
 

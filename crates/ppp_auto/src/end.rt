@@ -5,19 +5,20 @@ ghost use Rattle.std.specs.Option.{unwrap_or};
 ghost use Rattle.ppp_packet.specs.Options.{written};
 ghost use Rattle.ppp_auto.specs.Automaton.{after, answering, begins_anew, counts_anew, does_row, entries_of, entry_of, is_nak, last_id, naks_after, taken_as};
 ghost use Rattle.ppp_auto.specs.Ends.{auto_of, taken_in, entries_at, IsCap};
-ghost use Rattle.ppp_auto.specs.Judging.{max_failure};
-ghost use Rattle.ppp_auto.specs.Rows.{acks, asks};
-ghost use Rattle.ppp_auto.specs.Views.{row_in};
+ghost use Rattle.ppp_auto.specs.Reply.{max_failure};
+ghost use Rattle.ppp_auto.specs.EventTable.{acks, asks};
+ghost use Rattle.ppp_auto.specs.Views.{cell_seen};
 
+use crate::action::Action;
 use crate::answer::Answer;
-use crate::cell::Cell;
+use crate::auto_state::AutoState;
 use crate::code::{CODE_REJECT, CONFIGURE_REQUEST, TERMINATE_ACK, TERMINATE_REQUEST};
+use crate::event_table::Cell;
+use crate::input::Input;
 use crate::judging::MAX_FAILURE;
 use crate::layer_signal::LayerSignal;
+use crate::option_table::OptionTable;
 use crate::outbox::Outbox;
-use crate::row::{Action, Input};
-use crate::state::AutoState;
-use crate::table::OptionTable;
 use ppp_packet::{OptList, Options};
 
 /// One end's automaton without its table.
@@ -94,7 +95,7 @@ pub(crate) fn do_row<T: OptionTable>(
     requires cap { IsCap end.old.cap }
     requires own { T.sendable table.now end.old.own }
     requires adapted { T.sendable table.now incoming.now.adapted }
-    requires short { incoming.now.input ≡ Input.RequestGood → length (written (unwrap_or incoming.now.theirs [])) ≤ 128 }
+    requires short { incoming.now.input ≡ Input.ReceiveConfigureRequestGood → length (written (unwrap_or incoming.now.theirs [])) ≤ 128 }
     ensures auto { auto_of end.new ≡ (does_row (T.table table.now) (auto_of end.old) incoming.now.input (taken_in incoming.now) word).auto }
     ensures out { out.new ≡ entries_of (does_row (T.table table.now) (auto_of end.old) incoming.now.input (taken_in incoming.now) word) }
     ensures cap { end.new.cap ≡ end.old.cap }
@@ -118,10 +119,10 @@ fn end_after<T: OptionTable>(
 ) -> End
     requires own { T.sendable table.now end.now.own }
     requires adapted { T.sendable table.now incoming.now.adapted }
-    requires short { acks (row_in cell.now).actions ≡ true → length (written (unwrap_or incoming.now.theirs [])) ≤ 128 }
+    requires short { acks (cell_seen cell.now).actions ≡ true → length (written (unwrap_or incoming.now.theirs [])) ≤ 128 }
     ensures cap { result.cap ≡ end.now.cap }
     ensures sendable { T.sendable table.now result.own }
-    ensures auto { auto_of result ≡ after (T.table table.now) (auto_of end.now) incoming.now.input (row_in cell.now) (taken_in incoming.now) word }
+    ensures auto { auto_of result ≡ after (T.table table.now) (auto_of end.now) incoming.now.input (cell_seen cell.now) (taken_in incoming.now) word }
 {
     End {
         state: cell.next,
@@ -144,7 +145,7 @@ fn next_if(drawn: bool, id: u8) -> u8
 
 /// The count of Configure-Naks after a row: it begins anew where the line came up, and with each Configure-Ack.
 fn count_naks(end: &End, cell: &Cell, incoming: &Incoming<'_>) -> u8
-    ensures { result ≡ naks_after (auto_of end.now) incoming.now.input (row_in cell.now).actions (taken_in incoming.now) }
+    ensures { result ≡ naks_after (auto_of end.now) incoming.now.input (cell_seen cell.now).actions (taken_in incoming.now) }
 {
     if counts_anew(incoming.input, end.state) || cell.acks() {
         0
@@ -197,7 +198,7 @@ fn own_after<T: OptionTable>(
     requires own { T.sendable table.now end.now.own }
     requires adapted { T.sendable table.now incoming.now.adapted }
     ensures sendable { T.sendable table.now result }
-    ensures value { result ≡ (if asks (row_in cell.now).actions then (if begins_anew end.now.state then (T.table table.now).initial word else incoming.now.adapted) else end.now.own) }
+    ensures value { result ≡ (if asks (cell_seen cell.now).actions then (if begins_anew end.now.state then (T.table table.now).initial word else incoming.now.adapted) else end.now.own) }
 {
     if !cell.asks() {
         end.own.copied()
@@ -228,8 +229,8 @@ fn begins_anew(state: AutoState) -> bool
 
 /// The acknowledged list after a row.
 fn peer_after(end: &End, cell: &Cell, incoming: &Incoming<'_>) -> OptList
-    requires { acks (row_in cell.now).actions ≡ true → length (written (unwrap_or incoming.now.theirs [])) ≤ 128 }
-    ensures { result ≡ (if acks (row_in cell.now).actions then unwrap_or incoming.now.theirs [] else end.now.peer) }
+    requires { acks (cell_seen cell.now).actions ≡ true → length (written (unwrap_or incoming.now.theirs [])) ≤ 128 }
+    ensures { result ≡ (if acks (cell_seen cell.now).actions then unwrap_or incoming.now.theirs [] else end.now.peer) }
 {
     if !cell.acks() {
         return end.peer.copied();
@@ -251,18 +252,18 @@ fn emit(out: &mut Outbox, action: Option<Action>, old: &End, new: &End, incoming
         return;
     };
     match action {
-        Action::ThisUp => out.tell(LayerSignal::Up),
-        Action::ThisDown => out.tell(LayerSignal::Down),
-        Action::ThisStarted => out.tell(LayerSignal::Started),
-        Action::ThisFinished => out.tell(LayerSignal::Finished),
-        Action::InitRestart | Action::ZeroRestart => {}
-        Action::SendRequest | Action::RepeatRequest => {
+        Action::ThisLayerUp => out.tell(LayerSignal::Up),
+        Action::ThisLayerDown => out.tell(LayerSignal::Down),
+        Action::ThisLayerStarted => out.tell(LayerSignal::Started),
+        Action::ThisLayerFinished => out.tell(LayerSignal::Finished),
+        Action::InitializeRestartCount | Action::ZeroRestartCount => {}
+        Action::SendConfigureRequest | Action::RepeatConfigureRequest => {
             out.send(CONFIGURE_REQUEST, new.last_id(), new.own.octets());
         }
-        Action::SendAck | Action::SendNak | Action::SendEchoReply => {
+        Action::SendConfigureAck | Action::SendConfigureNak | Action::SendEchoReply => {
             send_answer(out, &incoming.answer);
         }
-        Action::SendTerminate => out.send(TERMINATE_REQUEST, old.second, &[]),
+        Action::SendTerminateRequest => out.send(TERMINATE_REQUEST, old.second, &[]),
         Action::SendTerminateAck => out.send(TERMINATE_ACK, incoming.id, &[]),
         Action::SendCodeReject => {
             out.send(CODE_REJECT, old.second, cut(incoming.whole, old.cap));

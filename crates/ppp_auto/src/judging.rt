@@ -2,14 +2,14 @@
 
 ghost use Rattle.std.specs.Prelude.{◌≡◌, ◌+◌, ◌<◌, ◌≤◌, ◌++◌, ◌∷◌, [], ◌||◌, length, true, false, slice_index_or};
 ghost use Rattle.ppp_packet.specs.Options.{written, option_octets, option_with};
-ghost use Rattle.ppp_packet.specs.Readings.{option_in};
-ghost use Rattle.ppp_auto.specs.Judging.{is_refused, rejected, suggested, unacceptable, better_of, as_list, fitting, has_options, reject_room, reply_to};
+ghost use Rattle.ppp_packet.specs.OptRef.{option_seen};
+ghost use Rattle.ppp_auto.specs.Reply.{is_refused, rejected, suggested, unacceptable, better_of, as_list, fitting, has_options, reject_room, reply_to};
 ghost use Rattle.ppp_auto.specs.Putting.{PutsIf};
 ghost use Rattle.ppp_auto.specs.Views.{judging_by};
 
 use crate::answer::{Answer, MOST_REST, Rest};
-use crate::row::Input;
-use crate::table::OptionTable;
+use crate::input::Input;
+use crate::option_table::OptionTable;
 use crate::verdict::Verdict;
 use arrayvec::ArrayVec;
 use ppp_packet::{OptList, OptRef, Options};
@@ -36,7 +36,7 @@ pub(crate) fn answer_to<T: OptionTable>(
     requires { T.sendable table.now own.now }
     ensures input { result.input ≡ (reply_to (T.table table.now) own.now naks word id theirs.now).input }
     ensures answer { result.answer ≡ (reply_to (T.table table.now) own.now naks word id theirs.now).answer }
-    ensures short { result.input ≡ Input.RequestGood → length (written theirs.now) ≤ 128 }
+    ensures short { result.input ≡ Input.ReceiveConfigureRequestGood → length (written theirs.now) ≤ 128 }
 {
     if has_rejected(table, own, theirs, word) {
         return refusing(Answer::reject(id, rejected_options(table, own, theirs, word)));
@@ -50,18 +50,18 @@ pub(crate) fn answer_to<T: OptionTable>(
         return refusing(Answer::nak(id, better));
     }
     Reply {
-        input: Input::RequestGood,
+        input: Input::ReceiveConfigureRequestGood,
         answer: Answer::ack(id, octets_of_options(theirs)),
     }
 }
 
 /// The answer to a request that isn't acceptable.
 fn refusing(answer: Answer) -> Reply
-    ensures input { result.input ≡ Input.RequestBad }
+    ensures input { result.input ≡ Input.ReceiveConfigureRequestBad }
     ensures answer { result.answer ≡ answer }
 {
     Reply {
-        input: Input::RequestBad,
+        input: Input::ReceiveConfigureRequestBad,
         answer,
     }
 }
@@ -173,14 +173,14 @@ fn is_rejected<T: OptionTable>(
     seen: &[bool; 256],
 ) -> bool
     ensures kind { option.entry.kind < 256 }
-    ensures test { result ≡ slice_index_or seen.now option.entry.kind false || is_refused (option_in option.entry) ((T.table table.now).judge own.now (option_in option.entry) word) }
+    ensures test { result ≡ slice_index_or seen.now option.entry.kind false || is_refused (option_seen option.entry) ((T.table table.now).judge own.now (option_seen option.entry) word) }
 {
     seen[usize::from(option.kind)] || is_refused(&table.judge(own, option, word), &option)
 }
 
 /// Whether an option of this verdict is to be rejected.
 fn is_refused(verdict: &Verdict, option: &OptRef<'_>) -> bool
-    ensures { result ≡ is_refused (option_in option.now) verdict.now }
+    ensures { result ≡ is_refused (option_seen option.now) verdict.now }
 {
     match verdict {
         Verdict::Good => false,
@@ -199,7 +199,7 @@ fn is_bad(verdict: &Verdict) -> bool
 /// Puts an option behind others where it is wanted. False exactly where it is wanted and doesn't fit.
 fn put_if(octets: &mut Rest, wanted: bool, option: OptRef<'_>) -> bool
     requires { length option.body.now ≤ 253 }
-    ensures { PutsIf octets.old.items octets.new.items wanted (option_in option.entry) result }
+    ensures { PutsIf octets.old.items octets.new.items wanted (option_seen option.entry) result }
 {
     if !wanted {
         return true;

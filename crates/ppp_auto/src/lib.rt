@@ -2,27 +2,31 @@
 //! `Outbox::new` takes memory.
 #![tactic(auto)]
 
+mod action;
 mod answer;
+mod auto_event;
+mod auto_state;
 mod automaton;
-mod cell;
 mod code;
 mod end;
+mod event_table;
+mod input;
 mod judging;
 mod layer_signal;
+mod option_table;
 mod outbox;
 mod receive;
-mod row;
-mod state;
-mod table;
 #[cfg(test)]
 mod tests;
 mod verdict;
 
+pub use action::Action;
+pub use auto_event::AutoEvent;
+pub use auto_state::AutoState;
 pub use automaton::Automaton;
+pub use input::Input;
 pub use layer_signal::LayerSignal;
+pub use option_table::OptionTable;
 pub use outbox::{EntryRef, Outbox};
 pub use ppp_memory::Memory;
-pub use row::{Action, Input};
-pub use state::{AutoEvent, AutoState};
-pub use table::OptionTable;
 pub use verdict::Verdict;

@@ -3,25 +3,27 @@
 ghost use Rattle.std.specs.Prelude.{◌≡◌, ◌+◌, ◌-◌, ◌%◌, ◌<◌, ◌≤◌, ◌++◌, [], length, take, drop, map, Some, Option, None, true, false, ◌&&◌};
 ghost use Rattle.ppp_packet.specs.Options.{written};
 ghost use Rattle.ppp_packet.specs.Packet.{packet_octets};
-ghost use Rattle.ppp_packet.specs.Readings.{raw_packet, option_in};
+ghost use Rattle.ppp_packet.specs.PacketRef.{packet_seen};
+ghost use Rattle.ppp_packet.specs.OptRef.{option_seen};
 ghost use Rattle.ppp_auto.specs.Automaton.{acts_on, code_reject_input, command, does_row, echo_answer, entries_of, entry_of, extended_taken, four_octets, input_of, is_ack_of, is_extended_code, is_idle, is_nak_of, is_reject_of, judging, rejected_protocol, take_in, take_octets, take_read, taken_as, tells_rejected};
 ghost use Rattle.ppp_auto.specs.Ends.{auto_of, acts_as, IsCap};
-ghost use Rattle.ppp_auto.specs.Judging.{is_sublist, same_list, same_option};
-ghost use Rattle.ppp_auto.specs.Packets.{Request, Ack, Nak, Reject, Other, packet_with};
+ghost use Rattle.ppp_auto.specs.Reply.{is_sublist, same_list, same_option};
+ghost use Rattle.ppp_auto.specs.Packet.{Request, Ack, Nak, Reject, Other, packet_with};
 ghost use Rattle.ppp_auto.specs.Views.{after_one};
 
 use crate::answer::{Answer, Rest};
+use crate::auto_event::AutoEvent;
+use crate::auto_state::AutoState;
 use crate::code::{
     CODE_REJECT, CONFIGURE_ACK, CONFIGURE_NAK, CONFIGURE_REJECT, CONFIGURE_REQUEST,
     DISCARD_REQUEST, ECHO_REQUEST, PROTOCOL_REJECT, TERMINATE_ACK, TERMINATE_REQUEST,
 };
 use crate::end::{End, Incoming, do_row, first_list};
+use crate::input::Input;
 use crate::judging::answer_to;
 use crate::layer_signal::LayerSignal;
+use crate::option_table::OptionTable;
 use crate::outbox::Outbox;
-use crate::row::Input;
-use crate::state::{AutoEvent, AutoState};
-use crate::table::OptionTable;
 use arrayvec::ArrayVec;
 use byteorder::{BigEndian, ByteOrder};
 use ppp_packet::{OptList, OptRef, Options, PacketRef, read_options, read_packet};
@@ -64,10 +66,10 @@ fn input_of(end: &End, event: AutoEvent) -> Input
         AutoEvent::Down => Input::Down,
         AutoEvent::AdminOpen => Input::Open,
         AutoEvent::AdminClose => Input::Close,
-        AutoEvent::Timeout if 0 < end.restart => Input::TimeoutAgain,
-        AutoEvent::Timeout => Input::TimeoutLast,
-        AutoEvent::RejectedWell => Input::RejectedWell,
-        AutoEvent::RejectedBadly => Input::RejectedBadly,
+        AutoEvent::Timeout if 0 < end.restart => Input::TimeoutAboveZero,
+        AutoEvent::Timeout => Input::TimeoutExpired,
+        AutoEvent::RejectedWell => Input::ReceiveRejectPermitted,
+        AutoEvent::RejectedBadly => Input::ReceiveRejectCatastrophic,
     }
 }
 
@@ -106,8 +108,8 @@ fn take_read<T: OptionTable>(
     requires cap { IsCap end.old.cap }
     requires sendable { T.sendable table.now end.old.own }
     requires whole { whole.now ≡ packet_octets packet.code packet.id packet.rest.now }
-    ensures auto { auto_of end.new ≡ (take_read (T.table table.now) (auto_of end.old) (packet_with (raw_packet packet.entry)) word).auto }
-    ensures out { out.new ≡ entries_of (take_read (T.table table.now) (auto_of end.old) (packet_with (raw_packet packet.entry)) word) }
+    ensures auto { auto_of end.new ≡ (take_read (T.table table.now) (auto_of end.old) (packet_with (packet_seen packet.entry)) word).auto }
+    ensures out { out.new ≡ entries_of (take_read (T.table table.now) (auto_of end.old) (packet_with (packet_seen packet.entry)) word) }
     ensures cap { end.new.cap ≡ end.old.cap }
     ensures sendable { T.sendable table.now end.new.own }
 {
@@ -197,7 +199,7 @@ fn take_ack<T: OptionTable>(
     ensures sendable { T.sendable table.now end.new.own }
 {
     if is_ack_of(end, id, options) {
-        let incoming = Incoming::plain(end, Input::AckCame, id);
+        let incoming = Incoming::plain(end, Input::ReceiveConfigureAck, id);
         do_row(table, end, &incoming, word, out);
     }
 }
@@ -220,7 +222,7 @@ fn take_nak<T: OptionTable>(
     ensures sendable { T.sendable table.now end.new.own }
 {
     if is_nak_of(end, id, options) {
-        let mut incoming = Incoming::plain(end, Input::NakCame, id);
+        let mut incoming = Incoming::plain(end, Input::ReceiveConfigureNak, id);
         incoming.adapted = list_after_nak(table, &end.own, options, word);
         do_row(table, end, &incoming, word, out);
     }
@@ -244,7 +246,7 @@ fn take_reject<T: OptionTable>(
     ensures sendable { T.sendable table.now end.new.own }
 {
     if is_reject_of(end, id, options) {
-        let mut incoming = Incoming::plain(end, Input::NakCame, id);
+        let mut incoming = Incoming::plain(end, Input::ReceiveConfigureNak, id);
         incoming.adapted = list_after_reject(table, &end.own, options, word);
         do_row(table, end, &incoming, word, out);
     }
@@ -329,7 +331,7 @@ fn is_sublist(part: &Options<'_>, list: &Options<'_>) -> bool
 
 /// A list without its first option, where that is this one.
 fn without_first<'a>(list: &Options<'a>, option: &OptRef<'_>) -> Options<'a>
-    ensures { result ≡ after_one list.now (option_in option.now) }
+    ensures { result ≡ after_one list.now (option_seen option.now) }
 {
     match list.split_first() {
         Some((first, behind)) if is_same(&first, option) => behind,
@@ -339,7 +341,7 @@ fn without_first<'a>(list: &Options<'a>, option: &OptRef<'_>) -> Options<'a>
 
 /// Whether two options are the same.
 fn is_same(one: &OptRef<'_>, other: &OptRef<'_>) -> bool
-    ensures { result ≡ same_option (option_in one.now) (option_in other.now) }
+    ensures { result ≡ same_option (option_seen one.now) (option_seen other.now) }
 {
     one.kind == other.kind && one.body == other.body
 }
@@ -364,11 +366,11 @@ fn take_other<T: OptionTable>(
 {
     match packet.code {
         TERMINATE_REQUEST => {
-            let input = Some(Input::TerminateRequestCame);
+            let input = Some(Input::ReceiveTerminateRequest);
             take_plain(table, end, input, packet.id, word, out);
         }
         TERMINATE_ACK => {
-            let input = Some(Input::TerminateAckCame);
+            let input = Some(Input::ReceiveTerminateAck);
             take_plain(table, end, input, packet.id, word, out);
         }
         CODE_REJECT => {
@@ -411,8 +413,8 @@ fn code_reject_input(rest: &[u8]) -> Option<Input>
 {
     match rest {
         [] => None,
-        [CONFIGURE_REQUEST..=CODE_REJECT, ..] => Some(Input::RejectedBadly),
-        _ => Some(Input::RejectedWell),
+        [CONFIGURE_REQUEST..=CODE_REJECT, ..] => Some(Input::ReceiveRejectCatastrophic),
+        _ => Some(Input::ReceiveRejectPermitted),
     }
 }
 
@@ -435,12 +437,12 @@ fn take_unknown<T: OptionTable>(
     requires empty { out.old ≡ [] }
     requires cap { IsCap end.old.cap }
     requires sendable { T.sendable table.now end.old.own }
-    ensures auto { auto_of end.new ≡ (does_row (T.table table.now) (auto_of end.old) Input.UnknownCode (record (taken_as (auto_of end.old) (Some Input.UnknownCode) id) { whole = whole.now }) word).auto }
-    ensures out { out.new ≡ entries_of (does_row (T.table table.now) (auto_of end.old) Input.UnknownCode (record (taken_as (auto_of end.old) (Some Input.UnknownCode) id) { whole = whole.now }) word) }
+    ensures auto { auto_of end.new ≡ (does_row (T.table table.now) (auto_of end.old) Input.ReceiveUnknownCode (record (taken_as (auto_of end.old) (Some Input.ReceiveUnknownCode) id) { whole = whole.now }) word).auto }
+    ensures out { out.new ≡ entries_of (does_row (T.table table.now) (auto_of end.old) Input.ReceiveUnknownCode (record (taken_as (auto_of end.old) (Some Input.ReceiveUnknownCode) id) { whole = whole.now }) word) }
     ensures cap { end.new.cap ≡ end.old.cap }
     ensures sendable { T.sendable table.now end.new.own }
 {
-    let mut incoming = Incoming::plain(end, Input::UnknownCode, id);
+    let mut incoming = Incoming::plain(end, Input::ReceiveUnknownCode, id);
     incoming.whole = whole;
     do_row(table, end, &incoming, word, out);
 }
@@ -464,7 +466,7 @@ fn take_extended<T: OptionTable>(
     if packet.code == PROTOCOL_REJECT {
         tell_rejected(end.state, packet.rest, out);
     } else if MAGIC <= packet.rest.len() {
-        let mut incoming = Incoming::plain(end, Input::EchoCame, packet.id);
+        let mut incoming = Incoming::plain(end, Input::ReceiveEcho, packet.id);
         incoming.answer = echo_answer(table, end, packet);
         do_row(table, end, &incoming, word, out);
     }

@@ -5,7 +5,7 @@ use Rattle.std.specs.Ordering.{ordering_then, nat_cmp}
 use Rattle.std.specs.Cmp.Lexicographic.{slice_cmp}
 use Rattle.std.proofs.lemmas.List.{take-append-drop, length-take-le, length-replicate}
 use Rattle.std.proofs.lemmas.Bool.Decides.{nat_tests}
-use Rattle.ppp_packet.specs.Discriminator.{IsAddress}
+use Rattle.ppp_packet.specs.Disc.{IsAddress}
 
 then_same : (first second third rest : Ordering) → ordering_then second third ≡ rest → ordering_then (ordering_then first second) third ≡ ordering_then first rest
 then_same Less second third rest same = refl

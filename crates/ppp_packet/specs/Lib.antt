@@ -1,5 +1,6 @@
 pub mod ConfigOption
-pub mod Discriminator
+pub mod Disc
+pub mod OptRef
 pub mod Options
 pub mod Packet
-pub mod Readings
+pub mod PacketRef

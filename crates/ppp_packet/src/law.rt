@@ -4,7 +4,7 @@ ghost use Rattle.std.specs.Prelude.{◌≡◌, ℕ, ◌<◌, ◌≤◌, ◌↔�
 ghost use Rattle.ppp_packet.specs.ConfigOption.{ConfigOption};
 ghost use Rattle.ppp_packet.specs.Packet.{packet_octets, IsPacket, raw_packet_of};
 ghost use Rattle.ppp_packet.specs.Options.{written, IsOptions, options_of};
-ghost use Rattle.ppp_packet.specs.Discriminator.{IsAddress};
+ghost use Rattle.ppp_packet.specs.Disc.{IsAddress};
 ghost use Rattle.std.specs.Ordering.{ordering_then, nat_cmp};
 ghost use Rattle.std.specs.Cmp.Lexicographic.{slice_cmp};
 

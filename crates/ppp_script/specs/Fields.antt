@@ -1,8 +1,8 @@
 -- The fields of an event line.
 use Rattle.std.specs.Prelude.{ℕ, ◌&&◌, nat_le, ◌==◌, if◌then◌else◌, List, [], ◌∷◌, Option, Some, None, Result, Ok, Err, bytes_eq, codes}
 use Rattle.std.specs.List.{slice_split}
-use Rattle.ppp_packet.specs.declared.protocol.Proto.{Proto}
-use Rattle.ppp_packet.specs.declared.protocol.Proto.TheVariants.{Lcp}
+use Rattle.ppp_packet.specs.declared.proto.Proto.{Proto}
+use Rattle.ppp_packet.specs.declared.proto.Proto.TheVariants.{Lcp}
 use Rattle.ppp_script.specs.declared.event.End.{End}
 use Rattle.ppp_script.specs.declared.event.End.TheVariants.{A, B}
 use Rattle.ppp_script.specs.declared.fault.LineWhy.{LineWhy}

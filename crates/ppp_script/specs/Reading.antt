@@ -1,6 +1,6 @@
 -- Event lines, read from left to right: of two deviations the one that stands earlier in the line decides.
 use Rattle.std.specs.Prelude.{ℕ, if◌then◌else◌, List, Result, Ok, Err, bytes_eq, codes}
-use Rattle.ppp_packet.specs.declared.protocol.Proto.{Proto}
+use Rattle.ppp_packet.specs.declared.proto.Proto.{Proto}
 use Rattle.ppp_script.specs.declared.event.End.{End}
 use Rattle.ppp_script.specs.declared.event.Event.{Event}
 use Rattle.ppp_script.specs.declared.event.Event.TheVariants.{Up, Down, AdminOpen, AdminClose, Timeout, Deliver, Lose, Settle, Show}

@@ -2,8 +2,8 @@
 use Rattle.std.proofs.Common.{◌≡◌, ℕ, ◌≤◌, List, [], ◌∷◌, ◌++◌, take, length, refl}
 use Rattle.std.specs.Prelude.{Result, Ok, Err, OnOk}
 use Rattle.std.proofs.lemmas.List.{take_all}
-use Rattle.ppp_auto.specs.declared.state.AutoEvent.{AutoEvent}
-use Rattle.ppp_auto.specs.Duet.{Duet, End, Marked, A, B, Commands, Delivers, Loses, at_first, takes, happens, without}
+use Rattle.ppp_auto.specs.declared.auto_event.AutoEvent.{AutoEvent}
+use Rattle.ppp_duet.specs.Duet.{Duet, End, Marked, A, B, Commands, Delivers, Loses, at_first, takes, happens, without}
 use Rattle.ppp_world.specs.declared.step.Happening.TheVariants as what
 use Rattle.ppp_world.specs.declared.step.Happening as kept
 use Rattle.ppp_world.specs.Parties.{commanded}

@@ -4,7 +4,7 @@ use Rattle.std.specs.Prelude.{◌==◌, not}
 use Rattle.std.proofs.lemmas.Bool.Decides.{nat_tests}
 use Rattle.std.proofs.lemmas.List.Folds.{list_any-append}
 use Rattle.ppp_packet.specs.ConfigOption.{ConfigOption}
-use Rattle.ppp_auto.specs.Judging.{has_kind}
+use Rattle.ppp_auto.specs.Reply.{has_kind}
 use Rattle.ppp_world.specs.Lcp.{all_fine, is_fine}
 
 -- what the options before come to: whether one is a Maximum-Receive-Unit, and one a Magic-Number

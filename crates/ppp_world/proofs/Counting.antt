@@ -8,16 +8,16 @@ use Rattle.ppp_packet.specs.Packet.{packet_octets, raw_packet_of}
 use Rattle.ppp_packet.specs.Options.{written}
 use Rattle.ppp_packet.proofs.OptionLemmas.{options_of-written}
 use Rattle.ppp_packet.proofs.PacketLemmas.{raw_packet_of-packet_octets}
-use Rattle.ppp_auto.specs.declared.state.AutoState.{AutoState}
-use Rattle.ppp_auto.specs.declared.row.Input.{Input}
-use Rattle.ppp_auto.specs.declared.row.Input.TheVariants as on
-use Rattle.ppp_auto.specs.declared.row.Action.{Action}
-use Rattle.ppp_auto.specs.declared.row.Action.TheVariants.{ThisUp, ThisDown, ThisStarted, ThisFinished, InitRestart, ZeroRestart, SendRequest, RepeatRequest, SendAck, SendNak, SendTerminate, SendTerminateAck, SendCodeReject, SendEchoReply}
+use Rattle.ppp_auto.specs.declared.auto_state.AutoState.{AutoState}
+use Rattle.ppp_auto.specs.declared.input.Input.{Input}
+use Rattle.ppp_auto.specs.declared.input.Input.TheVariants as on
+use Rattle.ppp_auto.specs.declared.action.Action.{Action}
+use Rattle.ppp_auto.specs.declared.action.Action.TheVariants.{ThisLayerUp, ThisLayerDown, ThisLayerStarted, ThisLayerFinished, InitializeRestartCount, ZeroRestartCount, SendConfigureRequest, RepeatConfigureRequest, SendConfigureAck, SendConfigureNak, SendTerminateRequest, SendTerminateAck, SendCodeReject, SendEchoReply}
 use Rattle.ppp_auto.specs.Automaton.{Auto, Taken, Effect, Sends, Tells, entry_of, effects, answering, after, judging}
-use Rattle.ppp_auto.specs.Duet.{marked}
-use Rattle.ppp_auto.specs.Packets.{Packet, Request, Ack, Nak, Reject, Other, packet_of, packet_with, octets_of}
-use Rattle.ppp_auto.specs.Rows.{row_of, asks, acks}
-use Rattle.ppp_auto.specs.Table.{Table}
+use Rattle.ppp_duet.specs.Duet.{marked}
+use Rattle.ppp_auto.specs.Packet.{Packet, Request, Ack, Nak, Reject, Other, packet_of, packet_with, octets_of}
+use Rattle.ppp_auto.specs.EventTable.{cell_of, asks, acks}
+use Rattle.ppp_auto.specs.OptionTable.{Table}
 use Rattle.ppp_world.specs.Frames.{packet_held, packets_in, AllHold, requests_after, stamped, sends_ack}
 
 -- the packets among effects
@@ -28,42 +28,42 @@ packets_of (Tells told ∷ es) = packets_of es
 
 -- which answer an input has
 abbrev pub Fits : Input → Option Packet → Type 0
-Fits on.RequestGood (Some (Ack id options)) = ⊤
-Fits on.RequestBad (Some (Nak id options)) = ⊤
-Fits on.RequestBad (Some (Reject id options)) = ⊤
-Fits on.EchoCame None = ⊤
-Fits on.EchoCame (Some (Other code id octets)) = code ≡ 10
+Fits on.ReceiveConfigureRequestGood (Some (Ack id options)) = ⊤
+Fits on.ReceiveConfigureRequestBad (Some (Nak id options)) = ⊤
+Fits on.ReceiveConfigureRequestBad (Some (Reject id options)) = ⊤
+Fits on.ReceiveEcho None = ⊤
+Fits on.ReceiveEcho (Some (Other code id octets)) = code ≡ 10
 Fits on.Up None = ⊤
 Fits on.Down None = ⊤
 Fits on.Open None = ⊤
 Fits on.Close None = ⊤
-Fits on.TimeoutAgain None = ⊤
-Fits on.TimeoutLast None = ⊤
-Fits on.AckCame None = ⊤
-Fits on.NakCame None = ⊤
-Fits on.TerminateRequestCame None = ⊤
-Fits on.TerminateAckCame None = ⊤
-Fits on.UnknownCode None = ⊤
-Fits on.RejectedWell None = ⊤
-Fits on.RejectedBadly None = ⊤
+Fits on.TimeoutAboveZero None = ⊤
+Fits on.TimeoutExpired None = ⊤
+Fits on.ReceiveConfigureAck None = ⊤
+Fits on.ReceiveConfigureNak None = ⊤
+Fits on.ReceiveTerminateRequest None = ⊤
+Fits on.ReceiveTerminateAck None = ⊤
+Fits on.ReceiveUnknownCode None = ⊤
+Fits on.ReceiveRejectPermitted None = ⊤
+Fits on.ReceiveRejectCatastrophic None = ⊤
 Fits input answer = ⊥
 
 -- a request is among the packets exactly where the row asks
 pub requests_in_row : (i : Input) (s : AutoState) (n : ℕ) (old new : Auto) (taken : Taken) → Fits i taken.answer →
-    requests_after n (packets_of (effects old new taken (row_of i s).actions)) ≡ (if asks (row_of i s).actions then n + 1 else n)
+    requests_after n (packets_of (effects old new taken (cell_of i s).actions)) ≡ (if asks (cell_of i s).actions then n + 1 else n)
 requests_in_row i s n old new taken fits = grind arith
 
 pub stamped_in_row : (i : Input) (s : AutoState) (n mark : ℕ) (old new : Auto) (taken : Taken) → Fits i taken.answer →
-    stamped n mark (packets_of (effects old new taken (row_of i s).actions)) ≡ marked (if asks (row_of i s).actions then n + 1 else n) mark (effects old new taken (row_of i s).actions)
+    stamped n mark (packets_of (effects old new taken (cell_of i s).actions)) ≡ marked (if asks (cell_of i s).actions then n + 1 else n) mark (effects old new taken (cell_of i s).actions)
 stamped_in_row i s n mark old new taken fits = grind arith
 
 pub acks_in_row : (i : Input) (s : AutoState) (old new : Auto) (taken : Taken) → Fits i taken.answer →
-    sends_ack (packets_of (effects old new taken (row_of i s).actions)) ≡ acks (row_of i s).actions
+    sends_ack (packets_of (effects old new taken (cell_of i s).actions)) ≡ acks (cell_of i s).actions
 acks_in_row i s old new taken fits = grind arith
 
 -- Where a Configure-Ack is sent, the request was judged against the list that is the own one after the row.
-pub judged_in_row : (i : Input) (t : Table) (a : Auto) (taken : Taken) (word : ℕ) → (i ≡ on.RequestGood → taken.adapted ≡ a.own) →
-    acks (row_of i a.state).actions ≡ true → judging t a word ≡ (after t a i (row_of i a.state) taken word).own
+pub judged_in_row : (i : Input) (t : Table) (a : Auto) (taken : Taken) (word : ℕ) → (i ≡ on.ReceiveConfigureRequestGood → taken.adapted ≡ a.own) →
+    acks (cell_of i a.state).actions ≡ true → judging t a word ≡ (after t a i (cell_of i a.state) taken word).own
 judged_in_row i t a taken word kept acked = grind (arith, kept)
 
 -- packets that no reader takes for others
@@ -91,17 +91,17 @@ AllProper-answering (Some p) es first rest = (first, rest)
 
 pub proper_in_row : (old new : Auto) (taken : Taken) (actions : List Action) → IsProperAnswer taken.answer → AllProper (packets_of (effects old new taken actions))
 proper_in_row old new taken [] fits = tt
-proper_in_row old new taken (ThisUp ∷ more) fits = proper_in_row old new taken more fits
-proper_in_row old new taken (ThisDown ∷ more) fits = proper_in_row old new taken more fits
-proper_in_row old new taken (ThisStarted ∷ more) fits = proper_in_row old new taken more fits
-proper_in_row old new taken (ThisFinished ∷ more) fits = proper_in_row old new taken more fits
-proper_in_row old new taken (InitRestart ∷ more) fits = proper_in_row old new taken more fits
-proper_in_row old new taken (ZeroRestart ∷ more) fits = proper_in_row old new taken more fits
-proper_in_row old new taken (SendRequest ∷ more) fits = (tt, proper_in_row old new taken more fits)
-proper_in_row old new taken (RepeatRequest ∷ more) fits = (tt, proper_in_row old new taken more fits)
-proper_in_row old new taken (SendAck ∷ more) fits = AllProper-answering taken.answer (effects old new taken more) fits (proper_in_row old new taken more fits)
-proper_in_row old new taken (SendNak ∷ more) fits = AllProper-answering taken.answer (effects old new taken more) fits (proper_in_row old new taken more fits)
-proper_in_row old new taken (SendTerminate ∷ more) fits = (refl, proper_in_row old new taken more fits)
+proper_in_row old new taken (ThisLayerUp ∷ more) fits = proper_in_row old new taken more fits
+proper_in_row old new taken (ThisLayerDown ∷ more) fits = proper_in_row old new taken more fits
+proper_in_row old new taken (ThisLayerStarted ∷ more) fits = proper_in_row old new taken more fits
+proper_in_row old new taken (ThisLayerFinished ∷ more) fits = proper_in_row old new taken more fits
+proper_in_row old new taken (InitializeRestartCount ∷ more) fits = proper_in_row old new taken more fits
+proper_in_row old new taken (ZeroRestartCount ∷ more) fits = proper_in_row old new taken more fits
+proper_in_row old new taken (SendConfigureRequest ∷ more) fits = (tt, proper_in_row old new taken more fits)
+proper_in_row old new taken (RepeatConfigureRequest ∷ more) fits = (tt, proper_in_row old new taken more fits)
+proper_in_row old new taken (SendConfigureAck ∷ more) fits = AllProper-answering taken.answer (effects old new taken more) fits (proper_in_row old new taken more fits)
+proper_in_row old new taken (SendConfigureNak ∷ more) fits = AllProper-answering taken.answer (effects old new taken more) fits (proper_in_row old new taken more fits)
+proper_in_row old new taken (SendTerminateRequest ∷ more) fits = (refl, proper_in_row old new taken more fits)
 proper_in_row old new taken (SendTerminateAck ∷ more) fits = (refl, proper_in_row old new taken more fits)
 proper_in_row old new taken (SendCodeReject ∷ more) fits = (refl, proper_in_row old new taken more fits)
 proper_in_row old new taken (SendEchoReply ∷ more) fits = AllProper-answering taken.answer (effects old new taken more) fits (proper_in_row old new taken more fits)

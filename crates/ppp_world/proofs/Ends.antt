@@ -2,11 +2,11 @@
 use Rattle.std.proofs.Common.{◌≡◌, ℕ, Bool, List, refl}
 use Rattle.std.specs.Prelude.{Some, if◌then◌else◌}
 use Rattle.ppp_packet.specs.ConfigOption.{ConfigOption}
-use Rattle.ppp_auto.specs.declared.state.AutoEvent.{AutoEvent}
+use Rattle.ppp_auto.specs.declared.auto_event.AutoEvent.{AutoEvent}
 use Rattle.ppp_auto.specs.Automaton.{Auto, Entry, command, take_in, take_octets, entries_of}
-use Rattle.ppp_auto.specs.Duet.{End, Marked, takes, got_after}
-use Rattle.ppp_auto.specs.Packets.{Packet, Request, Ack, Nak, Reject, Other, packet_of}
-use Rattle.ppp_auto.specs.Table.{Table}
+use Rattle.ppp_duet.specs.Duet.{End, Marked, takes, got_after}
+use Rattle.ppp_auto.specs.Packet.{Packet, Request, Ack, Nak, Reject, Other, packet_of}
+use Rattle.ppp_auto.specs.OptionTable.{Table}
 use Rattle.ppp_world.specs.declared.lcp.LcpTable.{LcpTable}
 use Rattle.ppp_world.specs.Frames.{packets_in, AllHold, requests_after, stamped, sends_ack}
 use Rattle.ppp_world.specs.Lcp.{lcp_table}

@@ -3,8 +3,8 @@ use Rattle.std.proofs.Common.{◌≡◌, ℕ, zero, suc, ◌+◌, ◌≤◌, Boo
 use Rattle.std.specs.Prelude.{Some, ◌||◌, slice_get}
 use Rattle.std.proofs.lemmas.List.{append-nil, take_all}
 use Rattle.ppp_auto.specs.Automaton.{Entry, Send, Signal}
-use Rattle.ppp_auto.specs.Duet.{Marked}
-use Rattle.ppp_auto.specs.Packets.{Packet}
+use Rattle.ppp_duet.specs.Duet.{Marked}
+use Rattle.ppp_auto.specs.Packet.{Packet}
 use Rattle.ppp_world.specs.Frames.{packet_held, packets_in, AllHold, counted, requests_after, stamped, is_ack, sends_ack}
 use Rattle.ppp_world.specs.Steps.{queue_room}
 

@@ -4,9 +4,9 @@ use Rattle.std.proofs.lemmas.Bool.Decides.{nat_tests}
 use Rattle.std.proofs.lemmas.Slice.Eq.{bytes_eq-Decides}
 use Rattle.ppp_packet.specs.ConfigOption.{ConfigOption}
 use Rattle.ppp_packet.specs.Options.{option_with}
-use Rattle.ppp_auto.specs.Duet.{Duet}
-use Rattle.ppp_auto.specs.Judging.{same_option, same_list}
-use Rattle.ppp_auto.specs.TwoEnds.{Agree}
+use Rattle.ppp_duet.specs.Duet.{Duet}
+use Rattle.ppp_auto.specs.Reply.{same_option, same_list}
+use Rattle.ppp_duet.specs.TwoEnds.{Agree}
 use Rattle.ppp_world.specs.Lcp.{Sendable, Allows, Compatible}
 use Rattle.ppp_world.specs.Texts.{agrees}
 

@@ -5,7 +5,7 @@ use Rattle.std.specs.List.{filter}
 use Rattle.std.proofs.lemmas.Bool.Decides.{nat_tests}
 use Rattle.ppp_packet.specs.ConfigOption.{ConfigOption}
 use Rattle.ppp_packet.specs.Options.{written, option_with, find_kind}
-use Rattle.ppp_auto.specs.Judging.{has_kind}
+use Rattle.ppp_auto.specs.Reply.{has_kind}
 use Rattle.ppp_world.specs.Lcp.{mru_after, magic_after, body_after}
 
 pub length_written-append : (xs ys : List ConfigOption) → length (written (xs ++ ys)) ≡ length (written xs) + length (written ys)

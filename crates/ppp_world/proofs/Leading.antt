@@ -2,7 +2,7 @@
 use Rattle.std.proofs.Common.{◌≡◌, ℕ, sym, ap, ◌∙◌}
 use Rattle.std.specs.Prelude.{Option, Some, None}
 use Rattle.std.specs.Option.{option_map}
-use Rattle.ppp_auto.specs.Duet.{Duet}
+use Rattle.ppp_duet.specs.Duet.{Duet}
 use Rattle.ppp_world.specs.declared.fault.Halt.{Halt}
 use Rattle.ppp_world.specs.declared.two_ends.Width.{Width}
 use Rattle.ppp_world.specs.Halts.{IsKeptUnless, kept_halt}

@@ -3,22 +3,22 @@ use Rattle.std.proofs.Common.{◌≡◌, ℕ, Bool, true, false, List, [], ◌�
 use Rattle.std.specs.Prelude.{Option, Some, None, if◌then◌else◌, ⊤}
 use Rattle.std.proofs.lemmas.Bool.Decides.{nat_tests}
 use Rattle.ppp_packet.specs.ConfigOption.{ConfigOption}
-use Rattle.ppp_auto.specs.declared.state.AutoEvent.{AutoEvent}
-use Rattle.ppp_auto.specs.declared.row.Input.{Input}
-use Rattle.ppp_auto.specs.declared.row.Input.TheVariants as on
+use Rattle.ppp_auto.specs.declared.auto_event.AutoEvent.{AutoEvent}
+use Rattle.ppp_auto.specs.declared.input.Input.{Input}
+use Rattle.ppp_auto.specs.declared.input.Input.TheVariants as on
 use Rattle.ppp_auto.specs.Automaton.{Auto, Taken, taken_as, request_taken, nak_taken, acts_on, take_in, command, input_of, entries_of, does_row, after, judging, kind, effects}
-use Rattle.ppp_auto.specs.Duet.{End, Setup, Marked, does, does_if, takes, got_after}
-use Rattle.ppp_auto.specs.Judging.{reply_with}
-use Rattle.ppp_auto.specs.Packets.{Packet, Request, Ack, Nak, Reject, Other}
-use Rattle.ppp_auto.specs.Rows.{row_of, acks}
-use Rattle.ppp_auto.specs.Table.{Table}
+use Rattle.ppp_duet.specs.Duet.{End, Setup, Marked, does, does_if, takes, got_after}
+use Rattle.ppp_auto.specs.Reply.{reply_with}
+use Rattle.ppp_auto.specs.Packet.{Packet, Request, Ack, Nak, Reject, Other}
+use Rattle.ppp_auto.specs.EventTable.{cell_of, acks}
+use Rattle.ppp_auto.specs.OptionTable.{Table}
 use Rattle.ppp_world.specs.Frames.{packets_in, AllHold, posted}
 use Rattle.ppp_world.proofs.Counting.{Fits, requests_in_row, stamped_in_row, acks_in_row, judged_in_row, proper_answer, proper_in_row, packets_in-entries, AllHold-entries}
 
 -- what a packet is, it is answered accordingly, and a good request keeps the own list
 pub record IsFit (a : Auto) (input : Input) (taken : Taken) : Type 0 where
   pub fits : Fits input taken.answer
-  pub kept : input ≡ on.RequestGood → taken.adapted ≡ a.own
+  pub kept : input ≡ on.ReceiveConfigureRequestGood → taken.adapted ≡ a.own
 
 abbrev pub FitsIfAny : Auto → Option Input → Taken → Type 0
 FitsIfAny a None taken = ⊤
@@ -36,7 +36,7 @@ reply_fits a naks id theirs [] [] (o ∷ missing) bad = record { fits = tt; kept
 reply_fits a naks id theirs [] (o ∷ better) missing bad = record { fits = grind arith; kept = λ same. refl }
 reply_fits a naks id theirs (o ∷ refused) better missing bad = record { fits = tt; kept = λ same. refl }
 
-ack_fits : (a : Auto) (id : ℕ) (counts : Bool) → let taken = taken_as a (if counts then Some on.AckCame else None) id in FitsIfAny a taken.input taken
+ack_fits : (a : Auto) (id : ℕ) (counts : Bool) → let taken = taken_as a (if counts then Some on.ReceiveConfigureAck else None) id in FitsIfAny a taken.input taken
 ack_fits a id true = record { fits = tt; kept = λ same. refl }
 ack_fits a id false = tt
 
@@ -65,8 +65,8 @@ pub does_posted : (s : Setup) (e : End) (input : Input) (taken : Taken) (mark wo
     does s e input taken mark word ≡ posted e mark acted.auto (packets_in (entries_of acted))
 unfolding does does_row
 does_posted s e input taken mark word fit =
-    let new = after s.table e.auto input (row_of input e.auto.state) taken word in
-    let actions = (row_of input e.auto.state).actions in
+    let new = after s.table e.auto input (cell_of input e.auto.state) taken word in
+    let actions = (cell_of input e.auto.state).actions in
     let es = effects e.auto new taken actions in
     let proper = proper_in_row e.auto new taken actions (proper_answer input taken.answer fit.fits) in
     let judged = chosen (acks actions) (judging s.table e.auto word) new.own e.against (judged_in_row input s.table e.auto taken word fit.kept) in
@@ -75,8 +75,8 @@ does_posted s e input taken mark word fit =
 pub does_holds : (t : Table) (a : Auto) (input : Input) (taken : Taken) (word : ℕ) → IsFit a input taken → AllHold (entries_of (does_row t a input taken word))
 unfolding does_row
 does_holds t a input taken word fit =
-    let new = after t a input (row_of input a.state) taken word in
-    let actions = (row_of input a.state).actions in
+    let new = after t a input (cell_of input a.state) taken word in
+    let actions = (cell_of input a.state).actions in
     AllHold-entries (effects a new taken actions) (proper_in_row a new taken actions (proper_answer input taken.answer fit.fits))
 
 -- an event without a packet

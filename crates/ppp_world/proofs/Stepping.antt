@@ -4,10 +4,10 @@ use Rattle.std.specs.Prelude.{Option, Some, None, if◌then◌else◌, IsSome, i
 use Rattle.std.proofs.lemmas.Bool.{lt-ltb, le-ltb}
 use Rattle.ppp_packet.specs.ConfigOption.{ConfigOption}
 use Rattle.ppp_auto.specs.Automaton.{Taken, kind}
-use Rattle.ppp_auto.specs.declared.row.Input.{Input}
-use Rattle.ppp_auto.specs.Duet.{Duet, End, Marked, Setup, at_first, does, does_if, takes, happens, got_after, delivers, turned, least, requests, answers}
-use Rattle.ppp_auto.specs.Judging.{same_list}
-use Rattle.ppp_auto.specs.Rows.{row_of, asks}
+use Rattle.ppp_auto.specs.declared.input.Input.{Input}
+use Rattle.ppp_duet.specs.Duet.{Duet, End, Marked, Setup, at_first, does, does_if, takes, happens, got_after, delivers, turned, least, requests, answers}
+use Rattle.ppp_auto.specs.Reply.{same_list}
+use Rattle.ppp_auto.specs.EventTable.{cell_of, asks}
 use Rattle.ppp_script.specs.declared.event.End as ends
 use Rattle.ppp_script.specs.declared.event.End.TheVariants as end_a
 use Rattle.ppp_world.specs.declared.step.Happening.TheVariants as what
@@ -33,7 +33,7 @@ one_more false n = omega arith
 
 does_n : (s : Setup) (e : End) (input : Input) (taken : Taken) (mark word : ℕ) → (does s e input taken mark word).end.n ≤ e.n + 1
 unfolding does
-does_n s e input taken mark word = one_more (asks (row_of input e.auto.state).actions) e.n
+does_n s e input taken mark word = one_more (asks (cell_of input e.auto.state).actions) e.n
 
 if_n : (s : Setup) (e : End) (input : Option Input) (taken : Taken) (mark word : ℕ) → (does_if s e input taken mark word).end.n ≤ e.n + 1
 if_n s e None taken mark word = omega arith

@@ -2,8 +2,8 @@
 use Rattle.std.specs.Prelude.{◌≡◌, ℕ, ◌+◌, Bool, true, false, ◌||◌, if◌then◌else◌, List, [], ◌∷◌, Some}
 use Rattle.std.specs.Option.{unwrap_or}
 use Rattle.ppp_auto.specs.Automaton.{Auto, Entry, Send, Signal}
-use Rattle.ppp_auto.specs.Duet.{Marked, mark_of, End, Did}
-use Rattle.ppp_auto.specs.Packets.{Packet, Request, Ack, Nak, Reject, Other, packet_of}
+use Rattle.ppp_duet.specs.Duet.{Marked, mark_of, End, Did}
+use Rattle.ppp_auto.specs.Packet.{Packet, Request, Ack, Nak, Reject, Other, packet_of}
 
 -- the packet that octets are, of octets that are one
 unfoldable pub packet_held : List ℕ → Packet

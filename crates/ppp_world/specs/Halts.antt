@@ -1,6 +1,6 @@
 -- Why a world takes no further step, and what its calls answer.
 use Rattle.std.specs.Prelude.{ℕ, ◌≤◌, Option, Some, None, Result, Ok, Err}
-use Rattle.ppp_auto.specs.Duet.{Duet}
+use Rattle.ppp_duet.specs.Duet.{Duet}
 use Rattle.ppp_world.specs.declared.fault.Halt.{Halt}
 use Rattle.ppp_world.specs.declared.fault.Halt.TheVariants as kept
 use Rattle.ppp_world.specs.declared.fault.WorldFault.{WorldFault}

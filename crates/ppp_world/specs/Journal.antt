@@ -1,6 +1,6 @@
 -- A world as its calls see it: the state, the steps done, the report so far, and why it takes no further step.
 use Rattle.std.specs.Prelude.{ℕ, zero, suc, ◌+◌, List, [], ◌++◌, Option, Some, None}
-use Rattle.ppp_auto.specs.Duet.{Duet, start}
+use Rattle.ppp_duet.specs.Duet.{Duet, start}
 use Rattle.ppp_script.specs.declared.event.Event.{Event}
 use Rattle.ppp_script.specs.declared.event.Event.TheVariants.{Settle}
 use Rattle.ppp_world.specs.Steps.{Step, setup, step_of, next_delivery, Width, wide_of}

@@ -1,5 +1,5 @@
 -- The kinds of packets that a world tells apart.
-use Rattle.ppp_auto.specs.Packets.{Packet, Request, Ack, Nak, Reject, Other}
+use Rattle.ppp_auto.specs.Packet.{Packet, Request, Ack, Nak, Reject, Other}
 use Rattle.ppp_world.specs.declared.frame.PacketKind.{PacketKind}
 use Rattle.ppp_world.specs.declared.frame.PacketKind.TheVariants as of
 

@@ -6,8 +6,8 @@ use Rattle.ppp_packet.specs.ConfigOption.{ConfigOption}
 use Rattle.ppp_packet.specs.Options.{option_with, find_kind}
 use Rattle.ppp_packet.specs.Packet.{two_octets}
 use Rattle.ppp_auto.specs.Automaton.{four_octets}
-use Rattle.ppp_auto.specs.Judging.{has_kind}
-use Rattle.ppp_auto.specs.Table.{Table}
+use Rattle.ppp_auto.specs.Reply.{has_kind}
+use Rattle.ppp_auto.specs.OptionTable.{Table}
 use Rattle.ppp_auto.specs.declared.verdict.Verdict.{Verdict}
 use Rattle.ppp_auto.specs.declared.verdict.Verdict.TheVariants.{Good, Bad, Unknown}
 use Rattle.ppp_world.specs.LcpSettings.{LcpSettings}

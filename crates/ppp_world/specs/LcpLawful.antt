@@ -8,7 +8,7 @@ use Rattle.ppp_packet.specs.ConfigOption.{ConfigOption}
 use Rattle.ppp_packet.specs.Options.{written, find_kind}
 use Rattle.ppp_packet.specs.Packet.{two_octets}
 use Rattle.ppp_auto.specs.Automaton.{four_octets}
-use Rattle.ppp_auto.specs.Judging.{has_kind}
+use Rattle.ppp_auto.specs.Reply.{has_kind}
 use Rattle.ppp_auto.specs.Lawful.{Lawful, Passes, AllGood, NoneTwice}
 use Rattle.ppp_auto.specs.declared.verdict.Verdict.TheVariants.{Good, Bad, Unknown}
 use Rattle.ppp_world.specs.Lcp.{lcp_table, initial, judge, adapt_nak, adapt_reject, mru_after, magic_after, body_after, is_sent_mru, is_sent_magic, magic_of, pick, number, Sendable, IsUnknown, Allows, all_fine, Compatible}

@@ -1,10 +1,10 @@
 -- What an end comes to.
 use Rattle.std.specs.Prelude.{◌≡◌, ℕ, ◌≤◌, true, List, length, Some, if◌then◌else◌}
 use Rattle.ppp_auto.specs.Automaton.{input_of, taken_as}
-use Rattle.ppp_auto.specs.declared.state.AutoEvent.{AutoEvent}
-use Rattle.ppp_auto.specs.declared.state.AutoState.{AutoState}
-use Rattle.ppp_auto.specs.Packets.{Packet, Request, Ack, Nak, Reject, Other}
-use Rattle.ppp_auto.specs.Duet.{End, Did, Marked, does, is_off}
+use Rattle.ppp_auto.specs.declared.auto_event.AutoEvent.{AutoEvent}
+use Rattle.ppp_auto.specs.declared.auto_state.AutoState.{AutoState}
+use Rattle.ppp_auto.specs.Packet.{Packet, Request, Ack, Nak, Reject, Other}
+use Rattle.ppp_duet.specs.Duet.{End, Did, Marked, does, is_off}
 use Rattle.ppp_world.specs.declared.lcp.LcpTable.{LcpTable}
 use Rattle.ppp_world.specs.Steps.{setup, queue_room}
 

@@ -1,6 +1,6 @@
 -- The run of a script, and its report.
 use Rattle.std.specs.Prelude.{ℕ, zero, suc, ◌+◌, List, [], ◌∷◌, ◌++◌, Option, Some, None}
-use Rattle.ppp_auto.specs.Duet.{Duet, start}
+use Rattle.ppp_duet.specs.Duet.{Duet, start}
 use Rattle.ppp_script.specs.declared.event.Event.{Event}
 use Rattle.ppp_script.specs.declared.event.Event.TheVariants.{Settle}
 use Rattle.ppp_world.specs.Steps.{Step, Happens, Reports, Rests, setup, step_of, next_delivery, moved, Width, wide_of}

@@ -1,7 +1,7 @@
 -- A step and its parts as the code has them.
 use Rattle.std.specs.Prelude.{ℕ, List}
-use Rattle.ppp_auto.specs.Duet.{Duet, End, Marked, Commands, Delivers, Loses, at_first}
-use Rattle.ppp_auto.specs.Duet as duet
+use Rattle.ppp_duet.specs.Duet.{Duet, End, Marked, Commands, Delivers, Loses, at_first}
+use Rattle.ppp_duet.specs.Duet as duet
 use Rattle.ppp_world.specs.declared.step.Happening.{Happening}
 use Rattle.ppp_world.specs.declared.step.Happening.TheVariants as what
 use Rattle.ppp_world.specs.declared.two_ends.Width.{Width}

@@ -2,11 +2,11 @@
 -- LCP, so its state is the duet of that, and each step is one of the duet's events, after which the frames that found
 -- a queue full are lost.
 use Rattle.std.specs.Prelude.{ℕ, ◌+◌, ◌*◌, true, ◌==◌, nat_lt, if◌then◌else◌, List, [], ◌∷◌, ◌++◌, take, Option, Some, None}
-use Rattle.ppp_auto.specs.declared.state.AutoEvent.TheVariants as event
-use Rattle.ppp_auto.specs.Duet.{Duet, Setup, Side, Happening, Commands, Delivers, Loses, Marked, happens, start, span_of, least, requests, answers, widest}
-use Rattle.ppp_auto.specs.Duet as side
-use Rattle.ppp_packet.specs.declared.protocol.Proto.{Proto}
-use Rattle.ppp_packet.specs.declared.protocol.Proto.TheVariants.{Lcp}
+use Rattle.ppp_auto.specs.declared.auto_event.AutoEvent.TheVariants as event
+use Rattle.ppp_duet.specs.Duet.{Duet, Setup, Side, Happening, Commands, Delivers, Loses, Marked, happens, start, span_of, least, requests, answers, widest}
+use Rattle.ppp_duet.specs.Duet as side
+use Rattle.ppp_packet.specs.declared.proto.Proto.{Proto}
+use Rattle.ppp_packet.specs.declared.proto.Proto.TheVariants.{Lcp}
 use Rattle.ppp_script.specs.declared.event.End.{End}
 use Rattle.ppp_script.specs.declared.event.End.TheVariants as end
 use Rattle.ppp_script.specs.declared.event.Event.{Event}

@@ -5,10 +5,10 @@ use Rattle.hex.specs.Hex.{encode_lower}
 use Rattle.ppp_packet.specs.ConfigOption.{ConfigOption}
 use Rattle.ppp_packet.specs.Options.{written}
 use Rattle.ppp_auto.specs.Automaton.{Auto, mine_of, peer_of, is_opened}
-use Rattle.ppp_auto.specs.Duet.{Duet, End}
-use Rattle.ppp_auto.specs.Judging.{same_list}
-use Rattle.ppp_auto.specs.declared.state.AutoState.{AutoState}
-use Rattle.ppp_auto.specs.declared.state.AutoState.TheVariants.{Initial, Starting, Closed, Stopped, Closing, Stopping, ReqSent, AckRcvd, AckSent, Opened}
+use Rattle.ppp_duet.specs.Duet.{Duet, End}
+use Rattle.ppp_auto.specs.Reply.{same_list}
+use Rattle.ppp_auto.specs.declared.auto_state.AutoState.{AutoState}
+use Rattle.ppp_auto.specs.declared.auto_state.AutoState.TheVariants.{Initial, Starting, Closed, Stopped, Closing, Stopping, ReqSent, AckRcvd, AckSent, Opened}
 use Rattle.ppp_world.specs.Lcp.{is_sendable, is_allowed, is_compatible}
 
 abbrev pub state_name : AutoState → List ℕ

@@ -1,9 +1,9 @@
 //! Whether the two ends agree.
 
 ghost use Rattle.std.specs.Prelude.{◌≡◌, ◌==◌, ◌&&◌};
-ghost use Rattle.ppp_packet.specs.Readings.{option_in};
+ghost use Rattle.ppp_packet.specs.OptRef.{option_seen};
 ghost use Rattle.ppp_auto.specs.Automaton.{is_opened};
-ghost use Rattle.ppp_auto.specs.Judging.{same_list};
+ghost use Rattle.ppp_auto.specs.Reply.{same_list};
 ghost use Rattle.ppp_world.specs.Lcp as spec;
 ghost use Rattle.ppp_world.specs.Texts.{agree_of, passes};
 
@@ -107,7 +107,7 @@ fn is_allowed(own: &OptList, theirs: &OptList) -> bool
 
 /// Whether an option of the peer is good against the own Magic-Number.
 fn is_fine(own: u32, option: OptRef<'_>) -> bool
-    ensures { result ≡ spec.is_fine own (option_in option.entry) }
+    ensures { result ≡ spec.is_fine own (option_seen option.entry) }
 {
     match option.kind {
         MRU => is_good_mru(option.body),

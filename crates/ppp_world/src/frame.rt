@@ -1,7 +1,7 @@
 //! Frames under way.
 
 ghost use Rattle.std.specs.Prelude.{◌≡◌, IfOk, Some};
-ghost use Rattle.ppp_auto.specs.Packets.{packet_of};
+ghost use Rattle.ppp_auto.specs.Packet.{packet_of};
 ghost use Rattle.ppp_world.specs.Frames.{packet_held, HoldsPacket};
 ghost use Rattle.ppp_world.specs.Kinds.{kind_of};
 
@@ -45,7 +45,7 @@ pub(crate) struct Frame {
 }
 
 impl Model for Frame {
-    ghost use Rattle.ppp_auto.specs.Duet.{Marked};
+    ghost use Rattle.ppp_duet.specs.Duet.{Marked};
     ghost use Rattle.ppp_world.specs.Frames.{packet_held, HoldsPacket};
 
     ghost Value = { Marked };

@@ -4,9 +4,9 @@
 ghost use Rattle.std.specs.Prelude.{◌≡◌, ◌+◌, ◌≤◌, true, [], ◌∷◌, ◌++◌, length, refl, MatchOption, Some, None};
 ghost use Rattle.ppp_packet.specs.Options.{written, option_with, find_kind};
 ghost use Rattle.ppp_packet.specs.Packet.{two_octets};
-ghost use Rattle.ppp_packet.specs.Readings.{option_in};
+ghost use Rattle.ppp_packet.specs.OptRef.{option_seen};
 ghost use Rattle.ppp_auto.specs.Automaton.{four_octets};
-ghost use Rattle.ppp_auto.specs.Judging.{has_kind};
+ghost use Rattle.ppp_auto.specs.Reply.{has_kind};
 ghost use Rattle.ppp_world.specs.Lcp as spec;
 ghost use Rattle.ppp_world.specs.LcpLawful.{lcp_lawful};
 
@@ -265,7 +265,7 @@ fn judge_magic(own: u32, body: &[u8], word: u64) -> Verdict
 /// Puts what a Nak makes of an own option at the end of a list that has room for the option.
 fn put_after_nak(list: &mut OptList, option: OptRef<'_>, nak: &Options<'_>, word: u64)
     requires room { length (written list.old) + (2 + length option.body.now) ≤ 128 }
-    ensures { list.new ≡ list.old ++ spec.option_after nak.now word (option_in option.entry) ∷ [] }
+    ensures { list.new ≡ list.old ++ spec.option_after nak.now word (option_seen option.entry) ∷ [] }
 {
     match option.kind {
         MRU => put(list, MRU, mru_after(option.body, nak)),

@@ -1,7 +1,7 @@
 //! LCP's table over lists that RFC 1661 spells out, and through its trait.
 
 ghost use Rattle.std.specs.Prelude.{◌≡◌, IsTrue};
-ghost use Rattle.ppp_packet.specs.Readings.{option_in};
+ghost use Rattle.ppp_packet.specs.OptRef.{option_seen};
 ghost use Rattle.ppp_auto.specs.declared.verdict.Verdict.TheVariants.{Good};
 
 use crate::laws::hold_of_lcp;
@@ -18,7 +18,7 @@ fn list_after<T: OptionTable>(table: &T, nak: &Options<'_>, word: u64) -> OptLis
 
 /// Whether an option is good against a word. One that is good against the word 0 is.
 fn stays_good<T: OptionTable>(table: &T, own: &OptList, option: OptRef<'_>, word: u64) -> bool
-    ensures { (T.table table.now).judge own.now (option_in option.entry) 0 ≡ Good → IsTrue result }
+    ensures { (T.table table.now).judge own.now (option_seen option.entry) 0 ≡ Good → IsTrue result }
 {
     matches!(table.judge(own, option, word), Verdict::Good)
 }
@@ -39,7 +39,7 @@ struct Judged<'a> {
     better: Option<&'a [u8]>,
 }
 
-fn row_of<'a>(kind: u8, body: &'a [u8], better: Option<&'a [u8]>) -> Judged<'a> {
+fn cell_of<'a>(kind: u8, body: &'a [u8], better: Option<&'a [u8]>) -> Judged<'a> {
     Judged {
         option: OptRef { kind, body },
         better,
@@ -72,15 +72,15 @@ fn judges_options(rt: HostRuntime) {
     let own = table.initial(4);
     assert_eq!(rt; table.magic(&own), 4);
     let rows = [
-        row_of(1, &[0, 0x40], Some(&[0, 0x80])),
-        row_of(1, &[5, 0xdc], Some(&[])),
-        row_of(1, &[0, 0x80], Some(&[])),
-        row_of(1, &[5, 0xdc, 0], Some(&[5, 0xdc])),
-        row_of(5, &[0, 0, 0, 0], Some(&[0, 0, 0, 9])),
-        row_of(5, &[0, 0, 0, 4], Some(&[0, 0, 0, 9])),
-        row_of(5, &[0, 0, 0, 5], Some(&[])),
-        row_of(5, &[0, 5], Some(&[0, 0, 0, 9])),
-        row_of(7, &[], None),
+        cell_of(1, &[0, 0x40], Some(&[0, 0x80])),
+        cell_of(1, &[5, 0xdc], Some(&[])),
+        cell_of(1, &[0, 0x80], Some(&[])),
+        cell_of(1, &[5, 0xdc, 0], Some(&[5, 0xdc])),
+        cell_of(5, &[0, 0, 0, 0], Some(&[0, 0, 0, 9])),
+        cell_of(5, &[0, 0, 0, 4], Some(&[0, 0, 0, 9])),
+        cell_of(5, &[0, 0, 0, 5], Some(&[])),
+        cell_of(5, &[0, 5], Some(&[0, 0, 0, 9])),
+        cell_of(7, &[], None),
     ];
     for row in rows {
         let verdict = table.judge(&own, row.option, 9);

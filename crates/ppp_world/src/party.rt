@@ -3,8 +3,8 @@
 ghost use Rattle.std.specs.Prelude.{◌≡◌, ◌+◌, ◌^◌, ◌<◌, ◌≤◌, ◌++◌, ◌∷◌, [], ◌||◌, take, length, IfOk, OnOk, option_map, if◌then◌else◌};
 ghost use Rattle.ppp_auto.specs.Automaton.{mine_of, peer_of};
 ghost use Rattle.ppp_auto.specs.Entries.{entry_lent};
-ghost use Rattle.ppp_auto.specs.Duet.{end_begun, takes, mark_of};
-ghost use Rattle.ppp_auto.specs.Packets.{Packet};
+ghost use Rattle.ppp_duet.specs.Duet.{end_begun, takes, mark_of};
+ghost use Rattle.ppp_auto.specs.Packet.{Packet};
 ghost use Rattle.ppp_world.specs.Frames.{packet_held, HoldsPacket, packets_in, AllHold, counted, requests_after, stamped, sends_ack};
 ghost use Rattle.ppp_world.specs.Kinds.{kind_of};
 ghost use Rattle.ppp_world.specs.Parties.{commanded, heard_of};
@@ -34,7 +34,7 @@ pub(crate) struct Party {
 }
 
 impl Model for Party {
-    ghost use Rattle.ppp_auto.specs.Duet.{End};
+    ghost use Rattle.ppp_duet.specs.Duet.{End};
     ghost use Rattle.ppp_world.specs.Parties.{IsDefault};
 
     ghost Value = { End };

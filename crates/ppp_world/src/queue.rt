@@ -2,7 +2,7 @@
 
 ghost use Rattle.std.specs.Prelude.{◌≡◌, ◌<◌, ◌≤◌, ◌↔◌, [], ◌∷◌, ◌++◌, take, length, IsTrue, OnOk, OnErr, MatchOption};
 ghost use Rattle.std.specs.List.{remove};
-ghost use Rattle.ppp_auto.specs.Duet.{without, least, requests, answers, request_mark, answer_mark};
+ghost use Rattle.ppp_duet.specs.Duet.{without, least, requests, answers, request_mark, answer_mark};
 ghost use Rattle.ppp_world.specs.Steps.{queue_room};
 
 use crate::frame::{Frame, PacketKind};
@@ -22,7 +22,7 @@ pub(crate) struct Queue {
 
 impl Model for Queue {
     ghost use Rattle.std.specs.Prelude.{List, ◌≤◌, length};
-    ghost use Rattle.ppp_auto.specs.Duet.{Marked};
+    ghost use Rattle.ppp_duet.specs.Duet.{Marked};
 
     ghost Value = { List Marked };
 

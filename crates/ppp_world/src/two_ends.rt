@@ -1,7 +1,7 @@
 //! The two ends of the link and what is under way between them.
 
 ghost use Rattle.std.specs.Prelude.{◌≡◌, ◌≤◌, ◌<◌, ◌^◌, take, length, option_map, OnOk, IfOk};
-ghost use Rattle.ppp_auto.specs.Duet.{start, happens};
+ghost use Rattle.ppp_duet.specs.Duet.{start, happens};
 ghost use Rattle.ppp_world.specs.StepViews.{acted, happening_seen, step_seen, width_seen};
 ghost use Rattle.ppp_world.specs.Steps.{setup, side_of, queue_room, within_room, next_delivery, too_wide, wide_of};
 
@@ -40,7 +40,7 @@ pub(crate) struct TwoEnds {
 
 impl Model for TwoEnds {
     ghost use Rattle.std.specs.Prelude.{◌≤◌, length};
-    ghost use Rattle.ppp_auto.specs.Duet.{Duet};
+    ghost use Rattle.ppp_duet.specs.Duet.{Duet};
     ghost use Rattle.ppp_world.specs.Parties.{HasRoom};
 
     ghost Value = { Duet };

@@ -1,8 +1,8 @@
 use Rattle.std.proofs.Common.{◌≡◌, ◌≢◌, ◌≤◌, ◌<◌, ◌∙◌, sym, ◌++◌, [], true, false, length, arith}
 use Rattle.ppp_packet.specs.Options.{written}
 use Rattle.ppp_packet.proofs.OptionLemmas.{HoldsOptions-written}
-use Rattle.ppp_auto.specs.Judging.{suggested, rejected, unacceptable, fitting, as_list, has_options, reject_room}
-use Rattle.ppp_auto.specs.Packets.{Ack, Nak, Reject}
+use Rattle.ppp_auto.specs.Reply.{suggested, rejected, unacceptable, fitting, as_list, has_options, reject_room}
+use Rattle.ppp_auto.specs.Packet.{Ack, Nak, Reject}
 use Rattle.ppp_auto.specs.Views.{judging_by}
 use Rattle.ppp_auto.proofs.ReplyLemmas.{reply_refused, reply_bad, reply_nak, reply_ack, answered, MayNak, suggested_lawful, acked_short, empty_list, filled_list}
 use Rattle.ppp_auto.proofs.judging.answer_to.Given.{Over}

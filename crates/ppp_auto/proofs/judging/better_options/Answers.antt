@@ -1,6 +1,6 @@
 use Rattle.std.proofs.Common.{◌∙◌}
 use Rattle.ppp_auto.proofs.ReplyLemmas.{missing_written}
-use Rattle.ppp_auto.specs.Judging.{suggested}
+use Rattle.ppp_auto.specs.Reply.{suggested}
 use Rattle.ppp_auto.specs.Views.{judging_by}
 use Rattle.ppp_auto.proofs.judging.better_options.Goals as goal
 

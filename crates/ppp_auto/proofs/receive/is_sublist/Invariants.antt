@@ -1,5 +1,5 @@
 use Rattle.std.proofs.Common.{◌≡◌, length}
-use Rattle.ppp_auto.specs.Judging.{is_sublist}
+use Rattle.ppp_auto.specs.Reply.{is_sublist}
 use Rattle.ppp_auto.proofs.receive.is_sublist.Given as goal
 
 abbrev pub invariant-options : goal.invariant-options

@@ -1,6 +1,6 @@
 use Rattle.std.proofs.Common.{◌≡◌, suc, ◌<◌, ◌∷◌, drop, length, sym, ◌∙◌, ap, arith, add-one}
 use Rattle.std.proofs.Math.Seq.{drop-cons}
-use Rattle.ppp_auto.specs.Duet.{Marked}
+use Rattle.ppp_duet.specs.Duet.{Marked}
 use Rattle.ppp_world.proofs.Queues.{least-answer-next}
 use Rattle.ppp_world.proofs.queue.Queue.least_answer.Goals as goal
 

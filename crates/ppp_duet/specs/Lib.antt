@@ -1,0 +1,2 @@
+pub mod Duet
+pub mod TwoEnds
