@@ -1,6 +1,7 @@
 //! PPP control packets and lists of Configuration Options (RFC 1661, sections 5 and 6). No call takes memory.
 #![tactic(auto)]
 
+mod code;
 mod disc;
 mod law;
 mod opt;
@@ -10,6 +11,7 @@ mod options;
 mod packet_ref;
 mod proto;
 
+pub use code::{Code, UnknownCode};
 pub use disc::Disc;
 pub use law::read_again;
 pub use opt::Opt;

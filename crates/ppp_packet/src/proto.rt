@@ -1,18 +1,54 @@
 //! The control protocols.
 
-/// A control protocol whose packets have the form of RFC 1661, section 5.
+ghost use Rattle.std.specs.Prelude.{◌≡◌, Some};
+ghost use Rattle.ppp_packet.specs.Proto.{proto_number, proto_name};
+
+use std::fmt;
+
+/// A control protocol whose packets have the form of RFC 1661 section 5. It prints as scripts and reports name it.
 #[derive(Clone, Copy, Debug, PartialEq, Eq)]
 pub enum Proto {
-    /// The Link Control Protocol (RFC 1661).
+    /// The Link Control Protocol, c021 (RFC 1661).
     Lcp,
-    /// The control protocol of IPv4 (RFC 1332).
+    /// The control protocol of IPv4, 8021 (RFC 1332).
     Ip,
-    /// The control protocol of IPv6 (RFC 5072).
+    /// The control protocol of IPv6, 8057 (RFC 5072).
     Ipv6,
-    /// The control protocol of the OSI network layer (RFC 1377).
+    /// The control protocol of the OSI network layer, 8023 (RFC 1377).
     Osi,
-    /// The control protocol of MPLS (RFC 3032).
+    /// The control protocol of MPLS, 8281 (RFC 3032).
     Mpls,
-    /// The Bandwidth Allocation Control Protocol (RFC 2125).
+    /// The Bandwidth Allocation Control Protocol, c02b (RFC 2125).
     Bacp,
+}
+
+impl Proto {
+    /// The protocol's number, as it stands in a frame (RFC 1661 section 2).
+    pub const fn number(self) -> u16
+        ensures { result ≡ proto_number self }
+    {
+        match self {
+            Proto::Lcp => 0xc021,
+            Proto::Ip => 0x8021,
+            Proto::Ipv6 => 0x8057,
+            Proto::Osi => 0x8023,
+            Proto::Mpls => 0x8281,
+            Proto::Bacp => 0xc02b,
+        }
+    }
+}
+
+impl fmt::Display for Proto {
+    ghost output = { λ proto. Some (proto_name proto) };
+
+    fn fmt<W: fmt::Write>(&self, f: &mut fmt::Formatter<W>) -> fmt::Result {
+        f.write_str(match self {
+            Proto::Lcp => "lcp",
+            Proto::Ip => "ip",
+            Proto::Ipv6 => "ipv6",
+            Proto::Osi => "osi",
+            Proto::Mpls => "mpls",
+            Proto::Bacp => "bacp",
+        })
+    }
 }
