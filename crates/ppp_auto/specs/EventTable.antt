@@ -54,9 +54,9 @@ on_close s = stays s
 abbrev pub on_timeout_above_zero : AutoState → Cell
 on_timeout_above_zero Closing = goes (SendTerminateRequest ∷ []) Closing
 on_timeout_above_zero Stopping = goes (SendTerminateRequest ∷ []) Stopping
-on_timeout_above_zero ReqSent = goes (SendConfigureRequest ∷ []) ReqSent
+on_timeout_above_zero ReqSent = goes (RepeatConfigureRequest ∷ []) ReqSent
 on_timeout_above_zero AckRcvd = goes (SendConfigureRequest ∷ []) ReqSent
-on_timeout_above_zero AckSent = goes (SendConfigureRequest ∷ []) AckSent
+on_timeout_above_zero AckSent = goes (RepeatConfigureRequest ∷ []) AckSent
 on_timeout_above_zero s = stays s
 
 -- TO-

@@ -218,11 +218,9 @@ fn at_timeout_above_zero(state: AutoState) -> Cell
     match state {
         AutoState::Closing => one(Action::SendTerminateRequest, AutoState::Closing),
         AutoState::Stopping => one(Action::SendTerminateRequest, AutoState::Stopping),
-        AutoState::ReqSent | AutoState::AckRcvd => one(
-            Action::SendConfigureRequest,
-            AutoState::ReqSent,
-        ),
-        AutoState::AckSent => one(Action::SendConfigureRequest, AutoState::AckSent),
+        AutoState::ReqSent => one(Action::RepeatConfigureRequest, AutoState::ReqSent),
+        AutoState::AckRcvd => one(Action::SendConfigureRequest, AutoState::ReqSent),
+        AutoState::AckSent => one(Action::RepeatConfigureRequest, AutoState::AckSent),
         _ => stay(state),
     }
 }
