@@ -5,17 +5,19 @@ use Rattle.ppp_auto.specs.declared.auto_event.AutoEvent.{AutoEvent}
 use Rattle.ppp_auto.specs.declared.auto_event.AutoEvent.TheVariants as event
 use Rattle.ppp_auto.specs.declared.input.Input.TheVariants.{Down, ReceiveConfigureAck, TimeoutAboveZero, TimeoutExpired}
 use Rattle.ppp_auto.specs.Automaton.{Auto, taken_as, input_of, is_heard, has_acked, begins_anew, does_row}
-use Rattle.ppp_duet.specs.Duet.{End, Marked, Duet, Setup, Side, A, B, Happening, Commands, SetsCap, RejectsProtocol, Delivers, Loses, Reboots, Event, does, takes, got_after, is_off, requests, request_mark, without, turned, end_begun, start, delivers, commands, reboots, at_first, at_side, happens, run, span_of, widest}
+use Rattle.ppp_duet.specs.Duet.{End, Marked, Duet, Setup, Side, A, B, Happening, Commands, SetsCap, RejectsProtocol, Delivers, Loses, Reboots, Event, does, takes, got_after, is_off, without, turned, end_begun, start, delivers, commands, reboots, at_first, at_side, happens, run}
+use Rattle.ppp_duet.specs.Span.{requests, request_mark, span_of, widest}
 use Rattle.ppp_auto.specs.Packet.{Packet, Request, Ack, Nak, Reject, Other}
 use Rattle.ppp_auto.specs.EventTable.{cell_of, asks}
-use Rattle.ppp_duet.specs.TwoEnds.{NarrowIfTaken, IsNarrowWhereTaken}
-use Rattle.ppp_duet.proofs.Cells.{is_request, down_low, down_asks_nothing, low_not_heard, low_not_acked}
+use Rattle.ppp_duet.specs.NarrowRun.{NarrowIfTaken, IsNarrowWhereTaken}
+use Rattle.ppp_duet.proofs.EventTableLemmas.{is_request, down_low, down_asks_nothing, low_not_heard, low_not_acked}
 use Rattle.ppp_duet.proofs.Invariant.{Asked, Acked, Half, Holds}
-use Rattle.ppp_duet.proofs.Kept.{Used}
-use Rattle.ppp_duet.proofs.Moved.{Moved, own_half, other_half, both_judged}
-use Rattle.ppp_duet.proofs.Queues.{Every, every_without, Rising, rising_within, rising_without, rising_rest, ack_near}
-use Rattle.ppp_duet.proofs.Rows.{if_false, row_moves, rest_moves}
-use Rattle.ppp_duet.proofs.Taking.{Near, plain, packet_moves, takes_got}
+use Rattle.ppp_duet.proofs.Terms.{Used}
+use Rattle.ppp_duet.proofs.Moves.{Moved, own_half, other_half, both_judged}
+use Rattle.ppp_duet.specs.Reached.{Every}
+use Rattle.ppp_duet.proofs.Queues.{every_without, Rising, rising_within, rising_without, rising_rest, ack_near}
+use Rattle.ppp_duet.proofs.RowMoves.{if_false, row_moves, rest_moves}
+use Rattle.ppp_duet.proofs.PacketMoves.{Near, plain, packet_moves, takes_got}
 use Rattle.ppp_duet.proofs.Turns.{Turn, turn_mine, turn_other, turn_low}
 
 -- commands are no requests and no Acks

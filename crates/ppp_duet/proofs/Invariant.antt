@@ -2,10 +2,12 @@
 use Rattle.std.proofs.Common.{◌≡◌, ℕ, ◌+◌, ◌%◌, ◌≤◌, ◌⊎◌, true, List}
 use Rattle.ppp_packet.specs.ConfigOption.{ConfigOption}
 use Rattle.ppp_auto.specs.Automaton.{is_heard, has_acked}
-use Rattle.ppp_duet.specs.Duet.{End, Marked, Duet, requests}
+use Rattle.ppp_duet.specs.Duet.{End, Marked, Duet}
+use Rattle.ppp_duet.specs.Span.{requests}
 use Rattle.ppp_auto.specs.Packet.{Packet, Request, Ack, Nak, Reject, Other}
-use Rattle.ppp_duet.proofs.Arithmetic.{id_of}
-use Rattle.ppp_duet.proofs.Queues.{Every, Rising}
+use Rattle.ppp_duet.proofs.Identifiers.{id_of}
+use Rattle.ppp_duet.specs.Reached.{Every}
+use Rattle.ppp_duet.proofs.Queues.{Rising}
 
 -- A request under way has the Identifier of its ordinal, and the newest has the own list.
 abbrev pub Asked : ℕ → (List ConfigOption → Type 0) → ℕ → List ConfigOption → ℕ → Packet → Type 0

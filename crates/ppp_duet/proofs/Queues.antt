@@ -1,13 +1,10 @@
 -- What holds of each packet of a queue, and of the marks of its requests.
 use Rattle.std.proofs.Common.{◌≡◌, ℕ, zero, suc, ◌+◌, ◌≤◌, List, [], ◌∷◌, ◌++◌, arith}
 use Rattle.ppp_packet.specs.ConfigOption.{ConfigOption}
-use Rattle.ppp_duet.specs.Duet.{Marked, requests, request_mark, answers, least, without, span_of, widest}
+use Rattle.ppp_duet.specs.Duet.{Marked, without}
+use Rattle.ppp_duet.specs.Span.{requests, request_mark, answers, least, span_of, widest}
 use Rattle.ppp_auto.specs.Packet.{Packet, Request, Ack, Nak, Reject, Other}
-
--- it holds of each packet with its mark
-abbrev pub Every : (ℕ → Packet → Type 0) → List Marked → Type 0
-Every P [] = Unit {0}
-Every P (m ∷ ms) = P m.mark m.packet × Every P ms
+use Rattle.ppp_duet.specs.Reached.{Every}
 
 pub every_weaker : {P Q : ℕ → Packet → Type 0} → ((mark : ℕ) (p : Packet) → P mark p → Q mark p) → (ms : List Marked) → Every P ms → Every Q ms
 every_weaker step [] h = tt

@@ -4,12 +4,10 @@ use Rattle.std.proofs.Math.Logic.{⊎_map}
 use Rattle.ppp_packet.specs.ConfigOption.{ConfigOption}
 use Rattle.ppp_auto.specs.Automaton.{is_heard, is_opened}
 use Rattle.ppp_duet.specs.Duet.{End, Marked}
-use Rattle.ppp_duet.proofs.Cells.{is_low, low_not_opened, opened_heard}
-use Rattle.ppp_duet.proofs.Moved.{Moved}
-
--- The other end `f` hasn't taken in the newest request of `e`, or no negotiation of `e` is under way.
-abbrev pub Away : End → End → Type 0
-Away e f = (f.got < e.n) ⊎ (is_low e.auto.state ≡ true)
+use Rattle.ppp_duet.specs.Reopening.{is_low}
+use Rattle.ppp_duet.proofs.EventTableLemmas.{low_not_opened, opened_heard}
+use Rattle.ppp_duet.proofs.Moves.{Moved}
+use Rattle.ppp_duet.specs.Reopening.{Away}
 
 -- in one event `e` became `e'`, and `f` became `f'`
 pub record Turn (e f e' f' : End) : Type 0 where

@@ -1,6 +1,6 @@
 -- Two ends with tables of one type, and a queue of packets to each: one protocol on one link. Each Configure-Request
 -- in a queue carries its ordinal as a mark, each answer to it the same mark. No end reads a mark.
-use Rattle.std.specs.Prelude.{ℕ, zero, suc, ◌+◌, ◌-◌, ◌≤◌, min, Bool, true, false, if◌then◌else◌, List, [], ◌∷◌, ◌++◌, Option, Some, None}
+use Rattle.std.specs.Prelude.{ℕ, zero, suc, ◌+◌, Bool, true, false, if◌then◌else◌, List, [], ◌∷◌, ◌++◌, Option, Some, None}
 use Rattle.ppp_packet.specs.ConfigOption.{ConfigOption}
 use Rattle.ppp_auto.specs.declared.auto_state.AutoState.{AutoState}
 use Rattle.ppp_auto.specs.declared.auto_state.AutoState.TheVariants.{Initial, Starting}
@@ -173,44 +173,3 @@ happens sa sb d event = at_side event.side sa sb d event.what event.word
 abbrev pub run : Setup → Setup → List Event → Duet → Duet
 run sa sb [] d = d
 run sa sb (e ∷ es) d = run sa sb es (happens sa sb d e)
-
--- the marks of the requests in a queue, and of the answers
-abbrev pub request_mark : ℕ → Packet → List ℕ
-request_mark mark (Request id options) = mark ∷ []
-request_mark mark (Ack id options) = []
-request_mark mark (Nak id options) = []
-request_mark mark (Reject id options) = []
-request_mark mark (Other code id octets) = []
-
-abbrev pub answer_mark : ℕ → Packet → List ℕ
-answer_mark mark (Request id options) = []
-answer_mark mark (Ack id options) = mark ∷ []
-answer_mark mark (Nak id options) = mark ∷ []
-answer_mark mark (Reject id options) = mark ∷ []
-answer_mark mark (Other code id octets) = []
-
-abbrev pub requests : List Marked → List ℕ
-requests [] = []
-requests (m ∷ ms) = request_mark m.mark m.packet ++ requests ms
-
-abbrev pub answers : List Marked → List ℕ
-answers [] = []
-answers (m ∷ ms) = answer_mark m.mark m.packet ++ answers ms
-
--- the least of a number and some
-abbrev pub least : ℕ → List ℕ → ℕ
-least n [] = n
-least n (m ∷ ms) = min m (least n ms)
-
--- The span of an end that has sent n requests: n less the least ordinal of a request of its own that is under way
--- itself, or whose answer is; 0 where none is.
-abbrev pub span_of : ℕ → List Marked → List Marked → ℕ
-span_of n out back = n - least n (requests out ++ answers back)
-
--- The widest span: then an Identifier of 8 bits tells the requests under way apart.
-abbrev pub widest : ℕ
-widest = 255
-
-pub record Narrow (d : Duet) : Type 0 where
-  pub of_a : span_of d.a.n d.to_b d.to_a ≤ widest
-  pub of_b : span_of d.b.n d.to_a d.to_b ≤ widest

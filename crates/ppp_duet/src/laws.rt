@@ -1,7 +1,8 @@
 //! What holds of two ends in every run. These functions answer nothing: each carries its law as its contract, over the
 //! definitions that the automaton's calls cite.
 
-ghost use Rattle.ppp_duet.specs.TwoEnds.{Agreement, Reopening};
+ghost use Rattle.ppp_duet.specs.Agreement.{Agreement};
+ghost use Rattle.ppp_duet.specs.Reopening.{Reopening};
 
 use ppp_auto::OptionTable;
 

@@ -6,11 +6,13 @@ use Rattle.std.specs.Prelude.{Option, Some, None, ◌≢◌, ◌&&◌, nat_lt, i
 use Rattle.std.proofs.lemmas.Bool.Decides.{nat_tests}
 use Rattle.ppp_auto.specs.Automaton.{is_opened}
 use Rattle.ppp_auto.specs.declared.auto_state.AutoState.{AutoState}
-use Rattle.ppp_duet.proofs.Spans.{narrow_start, narrow_still}
+use Rattle.ppp_duet.proofs.SpanLemmas.{narrow_start, narrow_still}
 use Rattle.ppp_auto.specs.declared.auto_state.AutoState.TheVariants.{Opened}
-use Rattle.ppp_duet.specs.Duet.{Duet, Marked, Event, Happening, Commands, SetsCap, RejectsProtocol, Delivers, Loses, Reboots, Side, A, B, happens, at_first, without, start, span_of, widest, Narrow}
-use Rattle.ppp_duet.specs.TwoEnds.{NarrowIfTaken}
-use Rattle.ppp_duet.proofs.Reached.{Reached, reached_start, reached_on, agreement_at}
+use Rattle.ppp_duet.specs.Duet.{Duet, Marked, Event, Happening, Commands, SetsCap, RejectsProtocol, Delivers, Loses, Reboots, Side, A, B, happens, at_first, without, start}
+use Rattle.ppp_duet.specs.Span.{span_of, widest, Narrow}
+use Rattle.ppp_duet.specs.NarrowRun.{NarrowIfTaken}
+use Rattle.ppp_duet.specs.Reached.{Reached}
+use Rattle.ppp_duet.proofs.ReachedLemmas.{reached_start, reached_on, agreement_at}
 use Rattle.ppp_world.specs.Lcp.{Sendable, IsUnknown, Allows, Compatible}
 use Rattle.ppp_world.specs.LcpLawful.{lcp_lawful}
 use Rattle.ppp_world.specs.LcpSettings.{IsRanged}

@@ -6,7 +6,7 @@ use Rattle.ppp_packet.specs.ConfigOption.{ConfigOption}
 use Rattle.ppp_packet.specs.Options.{option_with}
 use Rattle.ppp_duet.specs.Duet.{Duet}
 use Rattle.ppp_auto.specs.Reply.{same_option, same_list}
-use Rattle.ppp_duet.specs.TwoEnds.{Agree}
+use Rattle.ppp_duet.specs.Agreement.{Agree}
 use Rattle.ppp_world.specs.Lcp.{Sendable, Allows, Compatible}
 use Rattle.ppp_world.specs.Texts.{agrees}
 

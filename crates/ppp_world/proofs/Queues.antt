@@ -2,7 +2,8 @@
 use Rattle.std.proofs.Common.{◌≡◌, ℕ, zero, suc, ◌-◌, ◌<◌, ◌≤◌, List, [], ◌∷◌, ◌++◌, length, take, drop, min, refl, sym, ap, arith, length-append}
 use Rattle.std.specs.List.{remove}
 use Rattle.std.proofs.lemmas.List.{take_at, take_all}
-use Rattle.ppp_duet.specs.Duet.{Marked, without, least, requests, answers, request_mark, answer_mark}
+use Rattle.ppp_duet.specs.Duet.{Marked, without}
+use Rattle.ppp_duet.specs.Span.{least, requests, answers, request_mark, answer_mark}
 
 pub full : {X : Type 0} (room : ℕ) (xs ys : List X) → length xs ≤ room → room ≤ length xs → xs ≡ take room (xs ++ ys)
 full room xs ys few many = sym (take_at xs ys room (omega arith))

@@ -5,7 +5,8 @@ use Rattle.std.proofs.lemmas.Bool.{lt-ltb, le-ltb}
 use Rattle.ppp_packet.specs.ConfigOption.{ConfigOption}
 use Rattle.ppp_auto.specs.Automaton.{Taken, kind}
 use Rattle.ppp_auto.specs.declared.input.Input.{Input}
-use Rattle.ppp_duet.specs.Duet.{Duet, End, Marked, Setup, at_first, does, does_if, takes, happens, got_after, delivers, turned, least, requests, answers}
+use Rattle.ppp_duet.specs.Duet.{Duet, End, Marked, Setup, at_first, does, does_if, takes, happens, got_after, delivers, turned}
+use Rattle.ppp_duet.specs.Span.{least, requests, answers}
 use Rattle.ppp_auto.specs.Reply.{same_list}
 use Rattle.ppp_auto.specs.EventTable.{cell_of, asks}
 use Rattle.ppp_script.specs.declared.event.End as ends

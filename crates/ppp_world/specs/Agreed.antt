@@ -2,7 +2,7 @@
 use Rattle.std.specs.Prelude.{◌≡◌, ◌≢◌, ◌==◌, ℕ, Bool, false, if◌then◌else◌, None, List, [], ◌∷◌, Option, Some}
 use Rattle.ppp_auto.specs.declared.auto_state.AutoState.TheVariants.{Opened}
 use Rattle.ppp_duet.specs.Duet.{Duet}
-use Rattle.ppp_duet.specs.TwoEnds.{Agree}
+use Rattle.ppp_duet.specs.Agreement.{Agree}
 use Rattle.ppp_world.specs.Lcp.{Sendable, Allows, Compatible}
 use Rattle.ppp_packet.specs.declared.proto.Proto.{Proto}
 use Rattle.ppp_packet.specs.declared.proto.Proto.TheVariants.{Lcp, Ip, Ipv6, Osi, Mpls, Bacp}

@@ -3,7 +3,8 @@
 -- a queue full are lost.
 use Rattle.std.specs.Prelude.{ℕ, ◌+◌, ◌*◌, true, ◌==◌, nat_lt, if◌then◌else◌, List, [], ◌∷◌, ◌++◌, take, Option, Some, None}
 use Rattle.ppp_auto.specs.declared.auto_event.AutoEvent.TheVariants as event
-use Rattle.ppp_duet.specs.Duet.{Duet, Setup, Side, Happening, Commands, Delivers, Loses, Marked, happens, start, span_of, least, requests, answers, widest}
+use Rattle.ppp_duet.specs.Duet.{Duet, Setup, Side, Happening, Commands, Delivers, Loses, Marked, happens, start}
+use Rattle.ppp_duet.specs.Span.{span_of, least, requests, answers, widest}
 use Rattle.ppp_duet.specs.Duet as side
 use Rattle.ppp_packet.specs.declared.proto.Proto.{Proto}
 use Rattle.ppp_packet.specs.declared.proto.Proto.TheVariants.{Lcp}

@@ -1,6 +1,7 @@
 //! What holds of two ends in every run.
 
-ghost use Rattle.ppp_duet.specs.TwoEnds.{Agreement, Reopening};
+ghost use Rattle.ppp_duet.specs.Agreement.{Agreement};
+ghost use Rattle.ppp_duet.specs.Reopening.{Reopening};
 ghost use Rattle.ppp_world.specs.Lcp.{Sendable, Allows, Compatible, lcp_table};
 
 use crate::lcp::LcpTable;

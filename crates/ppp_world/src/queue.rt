@@ -2,7 +2,8 @@
 
 ghost use Rattle.std.specs.Prelude.{◌≡◌, ◌<◌, ◌≤◌, ◌↔◌, [], ◌∷◌, ◌++◌, take, length, IsTrue, OnOk, OnErr, MatchOption};
 ghost use Rattle.std.specs.List.{remove};
-ghost use Rattle.ppp_duet.specs.Duet.{without, least, requests, answers, request_mark, answer_mark};
+ghost use Rattle.ppp_duet.specs.Duet.{without};
+ghost use Rattle.ppp_duet.specs.Span.{least, requests, answers, request_mark, answer_mark};
 ghost use Rattle.ppp_world.specs.Steps.{queue_room};
 
 use crate::frame::{Frame, PacketKind};

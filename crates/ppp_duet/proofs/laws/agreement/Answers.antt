@@ -1,4 +1,4 @@
-use Rattle.ppp_duet.proofs.Agreement.{agreement}
+use Rattle.ppp_duet.proofs.AgreementLemmas.{agreement}
 use Rattle.ppp_duet.proofs.laws.agreement.Goals as goal
 
 pub returns : goal.returns

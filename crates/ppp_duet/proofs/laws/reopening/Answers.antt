@@ -1,4 +1,4 @@
-use Rattle.ppp_duet.proofs.Reopening.{reopening}
+use Rattle.ppp_duet.proofs.ReopeningLemmas.{reopening}
 use Rattle.ppp_duet.proofs.laws.reopening.Goals as goal
 
 pub returns : goal.returns

@@ -1,5 +1,5 @@
 use Rattle.std.proofs.Common.{◌≡◌, drop}
-use Rattle.ppp_duet.specs.Duet.{least, answers}
+use Rattle.ppp_duet.specs.Span.{least, answers}
 use Rattle.ppp_world.proofs.queue.Queue.least_answer.Given as goal
 
 abbrev pub invariant-loop-i : goal.invariant-loop-i

@@ -1,5 +1,5 @@
 use Rattle.std.proofs.Common.{◌≡◌, drop}
-use Rattle.ppp_duet.specs.Duet.{least, requests}
+use Rattle.ppp_duet.specs.Span.{least, requests}
 use Rattle.ppp_world.proofs.queue.Queue.least_request.Given as goal
 
 abbrev pub invariant-loop-i : goal.invariant-loop-i

@@ -8,8 +8,8 @@ use Rattle.ppp_auto.specs.Reply.{has_kind, is_refused, rejected, better_of, sugg
 use Rattle.ppp_auto.specs.Lawful.{AllGood, NoneTwice, Passes}
 use Rattle.ppp_auto.specs.Packet.{Packet, Request, Ack, Nak, Reject, Other}
 use Rattle.ppp_auto.specs.OptionTable.{Table}
-use Rattle.ppp_duet.proofs.Arithmetic.{id_of}
-use Rattle.ppp_duet.proofs.Cells.{is_request}
+use Rattle.ppp_duet.proofs.Identifiers.{id_of}
+use Rattle.ppp_duet.proofs.EventTableLemmas.{is_request}
 
 empty_if : (b : Bool) (o : ConfigOption) (xs ys : List ConfigOption) → (if b then o ∷ xs else ys) ≡ [] → (b ≡ false) × (ys ≡ [])
 empty_if true o xs ys e = cc

@@ -1,5 +1,5 @@
 -- An end that opens again: meanwhile the other end was outside Opened.
-use Rattle.std.proofs.Common.{◌≡◌, ℕ, ◌⊎◌, inl, inr, ⊎_elim, true, false, List, [], ◌∷◌, ◌++◌, arith}
+use Rattle.std.proofs.Common.{◌≡◌, ℕ, inl, inr, ⊎_elim, true, false, List, [], ◌∷◌, ◌++◌, arith}
 use Rattle.ppp_packet.specs.ConfigOption.{ConfigOption}
 use Rattle.ppp_auto.specs.declared.auto_state.AutoState.{AutoState}
 use Rattle.ppp_auto.specs.declared.auto_state.AutoState.TheVariants.{Opened}
@@ -7,12 +7,15 @@ use Rattle.ppp_auto.specs.Automaton.{is_opened}
 use Rattle.ppp_duet.specs.Duet.{Duet, Setup, Side, A, B, Event, happens, run, start}
 use Rattle.ppp_auto.specs.Lawful.{Lawful}
 use Rattle.ppp_auto.specs.OptionTable.{Table}
-use Rattle.ppp_duet.specs.TwoEnds.{NarrowIfTaken, IsNarrowWhereTaken, end_at, end_beyond, IsOpenedAt, StaysOut, IsOnceOut, Reopening}
+use Rattle.ppp_duet.specs.NarrowRun.{NarrowIfTaken, IsNarrowWhereTaken}
+use Rattle.ppp_duet.specs.Reopening.{end_at, end_beyond, IsOpenedAt, StaysOut, IsOnceOut, Reopening}
 use Rattle.ppp_duet.proofs.Events.{Goes, event_goes, run_holds, start_holds}
 use Rattle.ppp_duet.proofs.Invariant.{Holds}
-use Rattle.ppp_duet.proofs.Kept.{Used, used}
-use Rattle.ppp_duet.proofs.Narrow.{where_taken, narrow_front, narrow_back}
-use Rattle.ppp_duet.proofs.Turns.{Away, Turn}
+use Rattle.ppp_duet.proofs.Terms.{Used, used}
+use Rattle.ppp_duet.proofs.NarrowRunLemmas.{where_taken, narrow_front, narrow_back}
+use Rattle.ppp_duet.specs.Reopening.{Away}
+use Rattle.ppp_duet.proofs.Turns.{Turn}
+use Rattle.ppp_duet.specs.Reopening.{Waits}
 
 opened_is : (s : AutoState) → s ≡ Opened → is_opened s ≡ true
 opened_is s e = rw e
@@ -22,11 +25,6 @@ is_opened_at s e = grind arith
 
 not_opened : (s : AutoState) → is_opened s ≡ false → ¬ (s ≡ Opened)
 not_opened s e h = let yes : is_opened s ≡ true = opened_is s h in cc
-
--- The end of the side hasn't been Opened since it left that state, and: the other end was outside Opened since then
--- (`out`), or it hasn't taken in the newest request, or no negotiation of the end is under way.
-abbrev pub Waits : Type 0 → Side → Duet → Type 0
-Waits out side d = out ⊎ Away (end_at side d) (end_beyond side d)
 
 abbrev IsOpenedBeyond : Side → Duet → Type 0
 IsOpenedBeyond side d = (end_beyond side d).auto.state ≡ Opened

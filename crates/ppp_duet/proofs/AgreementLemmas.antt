@@ -7,11 +7,12 @@ use Rattle.ppp_auto.specs.Automaton.{Auto, is_heard, has_acked, mine_of, peer_of
 use Rattle.ppp_duet.specs.Duet.{Duet, Setup, Event, run, start}
 use Rattle.ppp_auto.specs.Lawful.{Lawful}
 use Rattle.ppp_auto.specs.OptionTable.{Table}
-use Rattle.ppp_duet.specs.TwoEnds.{IsNarrowWhereTaken, Agree, Agreement}
+use Rattle.ppp_duet.specs.NarrowRun.{IsNarrowWhereTaken}
+use Rattle.ppp_duet.specs.Agreement.{Agree, Agreement}
 use Rattle.ppp_duet.proofs.Events.{run_holds, start_holds}
 use Rattle.ppp_duet.proofs.Invariant.{Holds}
-use Rattle.ppp_duet.proofs.Kept.{Used, used}
-use Rattle.ppp_duet.proofs.Narrow.{where_taken}
+use Rattle.ppp_duet.proofs.Terms.{Used, used}
+use Rattle.ppp_duet.proofs.NarrowRunLemmas.{where_taken}
 
 heard_there : (s : AutoState) → s ≡ Opened → is_heard s ≡ true
 heard_there s e = rw e

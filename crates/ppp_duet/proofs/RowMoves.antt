@@ -11,11 +11,11 @@ use Rattle.ppp_duet.specs.Duet.{End, Marked, Setup, does, marked, is_off}
 use Rattle.ppp_auto.specs.Packet.{Packet, Request, Ack, Nak, Reject, Other}
 use Rattle.ppp_auto.specs.EventTable.{cell_of, asks, acks}
 use Rattle.ppp_auto.specs.OptionTable.{Table}
-use Rattle.ppp_duet.proofs.Acceptance.{Answering}
-use Rattle.ppp_duet.proofs.Arithmetic.{id_of, last_is, next_is}
-use Rattle.ppp_duet.proofs.Cells.{is_request, answers, heard_asks_nothing, heard_from, acked_from, acks_good, acks_unasked, acks_anew, answers_on, low_stays, opened_left, request_ends}
-use Rattle.ppp_duet.proofs.Moved.{Sent, Stood, Fresh, Moved}
-use Rattle.ppp_duet.proofs.Queues.{Every}
+use Rattle.ppp_duet.proofs.ReplyLemmas.{Answering}
+use Rattle.ppp_duet.proofs.Identifiers.{id_of, last_is, next_is}
+use Rattle.ppp_duet.proofs.EventTableLemmas.{is_request, answers, heard_asks_nothing, heard_from, acked_from, acks_good, acks_unasked, acks_anew, answers_on, low_stays, opened_left, request_ends}
+use Rattle.ppp_duet.proofs.Moves.{Sent, Stood, Fresh, Moved}
+use Rattle.ppp_duet.specs.Reached.{Every}
 
 abbrev pub AnswerOf : ℕ → ℕ → ℕ → Option Packet → Type 0
 AnswerOf first got mark None = Unit {0}

@@ -1,7 +1,8 @@
 -- Narrow runs and their parts.
 use Rattle.std.proofs.Common.{◌≡◌, List, [], ◌∷◌, ◌++◌, refl}
-use Rattle.ppp_duet.specs.Duet.{Duet, Setup, Happening, Commands, SetsCap, RejectsProtocol, Delivers, Loses, Reboots, Event, happens, run, Narrow}
-use Rattle.ppp_duet.specs.TwoEnds.{IsNarrowRun, NarrowIfTaken, IsNarrowWhereTaken}
+use Rattle.ppp_duet.specs.Duet.{Duet, Setup, Happening, Commands, SetsCap, RejectsProtocol, Delivers, Loses, Reboots, Event, happens, run}
+use Rattle.ppp_duet.specs.Span.{Narrow}
+use Rattle.ppp_duet.specs.NarrowRun.{IsNarrowRun, NarrowIfTaken, IsNarrowWhereTaken}
 
 taken_if : (what : Happening) (d : Duet) → Narrow d → NarrowIfTaken what d
 taken_if (Commands e) d h = tt

@@ -1,25 +1,23 @@
 -- States that a list of events leads to from the start: what layers above cite.
-use Rattle.std.proofs.Common.{◌≡◌, ℕ, inr, true, List, [], ◌∷◌, ◌++◌, refl, sym, ap, subst, ◌∙◌}
+use Rattle.std.proofs.Common.{◌≡◌, ℕ, inr, List, [], ◌∷◌, ◌++◌, refl, sym, ap, subst, ◌∙◌}
 use Rattle.ppp_packet.specs.ConfigOption.{ConfigOption}
 use Rattle.ppp_auto.specs.declared.auto_state.AutoState.TheVariants.{Opened}
-use Rattle.ppp_auto.specs.Automaton.{has_acked}
 use Rattle.ppp_duet.specs.Duet.{End, Duet, Marked, Setup, Side, Event, happens, run, start}
 use Rattle.ppp_auto.specs.Lawful.{Lawful}
 use Rattle.ppp_auto.specs.Packet.{Packet, Request, Ack, Nak, Reject, Other}
-use Rattle.ppp_duet.specs.TwoEnds.{NarrowIfTaken, IsNarrowWhereTaken, Agree, end_beyond, IsOpenedAt}
-use Rattle.ppp_duet.proofs.Agreement.{opened_agree}
+use Rattle.ppp_duet.specs.NarrowRun.{NarrowIfTaken, IsNarrowWhereTaken}
+use Rattle.ppp_duet.specs.Agreement.{Agree}
+use Rattle.ppp_duet.specs.Reopening.{end_beyond, IsOpenedAt}
+use Rattle.ppp_duet.proofs.AgreementLemmas.{opened_agree}
 use Rattle.ppp_duet.proofs.Events.{run_holds, start_holds}
 use Rattle.ppp_duet.proofs.Invariant.{Asked, Half, Holds}
-use Rattle.ppp_duet.proofs.Kept.{KeptBy, SentAnd, Used, used, used_with}
-use Rattle.ppp_duet.proofs.Narrow.{run_append, narrow_append}
-use Rattle.ppp_duet.proofs.Queues.{Every, every_weaker}
-use Rattle.ppp_duet.proofs.Reopening.{Waits, waits_left, waits_on, waits_entered}
-
--- a list of events leads from the start to that state, and each state before a delivery is narrow
-pub record Reached (sa sb : Setup) (d : Duet) : Type 0 where
-  pub events : List Event
-  pub narrow : IsNarrowWhereTaken sa sb events (start sa sb)
-  pub ends : run sa sb events (start sa sb) ≡ d
+use Rattle.ppp_duet.specs.Reached.{KeptBy}
+use Rattle.ppp_duet.proofs.Terms.{SentAnd, Used, used, used_with}
+use Rattle.ppp_duet.proofs.NarrowRunLemmas.{run_append, narrow_append}
+use Rattle.ppp_duet.proofs.Queues.{every_weaker}
+use Rattle.ppp_duet.specs.Reopening.{Waits}
+use Rattle.ppp_duet.proofs.ReopeningLemmas.{waits_left, waits_on, waits_entered}
+use Rattle.ppp_duet.specs.Reached.{Reached, IsKeptIn, Lists, Carried}
 
 pub reached_start : (sa sb : Setup) → Reached sa sb (start sa sb)
 reached_start sa sb = record { events = []; narrow = tt; ends = refl }
@@ -39,24 +37,6 @@ reached_run sa sb es narrow = record { events = es; narrow = narrow; ends = refl
 pub reached_more : (sa sb : Setup) (d : Duet) (es : List Event) → IsNarrowWhereTaken sa sb es d → Reached sa sb d → Reached sa sb (run sa sb es d)
 reached_more sa sb d [] narrow r = r
 reached_more sa sb d (e ∷ es) narrow r = reached_more sa sb (happens sa sb d e) es narrow.1 (reached_on sa sb d e narrow.0 r)
-
--- each request of a queue has a list of that property
-abbrev pub IsKeptIn : (List ConfigOption → Type 0) → ℕ → Packet → Type 0
-IsKeptIn keeps mark (Request id options) = keeps options
-IsKeptIn keeps mark (Ack id options) = Unit {0}
-IsKeptIn keeps mark (Nak id options) = Unit {0}
-IsKeptIn keeps mark (Reject id options) = Unit {0}
-IsKeptIn keeps mark (Other code id octets) = Unit {0}
-
--- The lists of an end `e`: its own one, those under way to the other end `f`, and the one that `f` acknowledged last.
-pub record Lists (keeps : List ConfigOption → Type 0) (e f : End) (out : List Marked) : Type 0 where
-  pub own : keeps e.auto.own
-  pub under_way : Every (IsKeptIn keeps) out
-  pub acknowledged : has_acked f.auto.state ≡ true → keeps f.auto.peer
-
-pub record Carried (keeps_a keeps_b : List ConfigOption → Type 0) (d : Duet) : Type 0 where
-  pub of_a : Lists keeps_a d.a d.b d.to_b
-  pub of_b : Lists keeps_b d.b d.a d.to_a
 
 asked_kept : (sends keeps : List ConfigOption → Type 0) (first n : ℕ) (own : List ConfigOption) (mark : ℕ) (p : Packet) →
     Asked first (SentAnd sends keeps) n own mark p → IsKeptIn keeps mark p

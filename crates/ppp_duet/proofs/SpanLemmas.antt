@@ -6,14 +6,16 @@ use Rattle.ppp_auto.specs.declared.input.Input.TheVariants.{ReceiveTerminateRequ
 use Rattle.ppp_auto.specs.declared.action.Action.{Action}
 use Rattle.ppp_auto.specs.declared.action.Action.TheVariants.{ThisLayerUp, ThisLayerDown, ThisLayerStarted, ThisLayerFinished, InitializeRestartCount, ZeroRestartCount, SendConfigureRequest, RepeatConfigureRequest, SendConfigureAck, SendConfigureNak, SendTerminateRequest, SendTerminateAck, SendCodeReject, SendEchoReply}
 use Rattle.ppp_auto.specs.Automaton.{Auto, Taken, taken_as, input_of, judging, is_nak_of, is_reject_of, nak_taken, four_octets, code_reject_input, rejected_protocol, echo_answer, unknown_taken, extended_taken, is_extended_code, kind, does_row, after, Effect, answering, effects}
-use Rattle.ppp_duet.specs.Duet.{End, Marked, Duet, Setup, Side, A, B, Happening, Commands, SetsCap, RejectsProtocol, Delivers, Loses, Reboots, Event, marked, does, does_if, start, takes, got_after, requests, request_mark, answers, answer_mark, least, without, turned, delivers, reboots, at_first, at_side, happens, Narrow, span_of, widest}
+use Rattle.ppp_duet.specs.Duet.{End, Marked, Duet, Setup, Side, A, B, Happening, Commands, SetsCap, RejectsProtocol, Delivers, Loses, Reboots, Event, marked, does, does_if, start, takes, got_after, without, turned, delivers, reboots, at_first, at_side, happens}
+use Rattle.ppp_duet.specs.Span.{requests, request_mark, answers, answer_mark, least, Narrow, span_of, widest}
 use Rattle.ppp_auto.specs.Reply.{reply_to}
 use Rattle.ppp_auto.specs.Packet.{Packet, Request, Ack, Nak, Reject, Other}
 use Rattle.ppp_auto.specs.EventTable.{cell_of}
 use Rattle.ppp_auto.specs.OptionTable.{Table}
-use Rattle.ppp_duet.proofs.Acceptance.{IsReply, reply_to_is}
-use Rattle.ppp_duet.proofs.Queues.{Every, every_weaker, every_append, every_without}
-use Rattle.ppp_duet.proofs.Taking.{at_either}
+use Rattle.ppp_duet.proofs.ReplyLemmas.{IsReply, reply_to_is}
+use Rattle.ppp_duet.specs.Reached.{Every}
+use Rattle.ppp_duet.proofs.Queues.{every_weaker, every_append, every_without}
+use Rattle.ppp_duet.proofs.PacketMoves.{at_either}
 
 -- an ordinal is near the newest one
 abbrev IsNear : ℕ → ℕ → Type 0

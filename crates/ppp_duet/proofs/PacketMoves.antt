@@ -8,13 +8,13 @@ use Rattle.ppp_auto.specs.Automaton.{last_id, Taken, taken_as, is_idle, is_heard
 use Rattle.ppp_duet.specs.Duet.{End, Marked, Setup, does, does_if, takes, got_after, is_off}
 use Rattle.ppp_auto.specs.Reply.{reply_to, same_list}
 use Rattle.ppp_auto.specs.Packet.{Packet, Request, Ack, Nak, Reject, Other}
-use Rattle.ppp_duet.proofs.Acceptance.{accepted_passes, answer_to, request_to}
-use Rattle.ppp_duet.proofs.Arithmetic.{same_ordinal, last_is}
-use Rattle.ppp_duet.proofs.Cells.{is_request, good_is_request, ack_is_none}
+use Rattle.ppp_duet.proofs.ReplyLemmas.{accepted_passes, answer_to, request_to}
+use Rattle.ppp_duet.proofs.Identifiers.{same_ordinal, last_is}
+use Rattle.ppp_duet.proofs.EventTableLemmas.{is_request, good_is_request, ack_is_none}
 use Rattle.ppp_duet.proofs.Invariant.{Asked, Acked}
-use Rattle.ppp_duet.proofs.Kept.{Used}
-use Rattle.ppp_duet.proofs.Moved.{Moved}
-use Rattle.ppp_duet.proofs.Rows.{AnswerOf, Ready, if_false, row_moves, rest_moves}
+use Rattle.ppp_duet.proofs.Terms.{Used}
+use Rattle.ppp_duet.proofs.Moves.{Moved}
+use Rattle.ppp_duet.proofs.RowMoves.{AnswerOf, Ready, if_false, row_moves, rest_moves}
 
 -- the Identifier of an Ack that counts
 ack_names : (idle same : Bool) (id last : ℕ) → (idle || ((id == last) && same)) ≡ true → idle ≡ false → id ≡ last

@@ -3,12 +3,7 @@ use Rattle.std.proofs.Common.{ℕ, List}
 use Rattle.ppp_packet.specs.ConfigOption.{ConfigOption}
 use Rattle.ppp_auto.specs.Lawful.{Passes, Lawful}
 use Rattle.ppp_auto.specs.OptionTable.{Table}
-
--- Each list that the table asks for has the property, where the last one has it.
-pub record KeptBy (t : Table) (keeps : List ConfigOption → Type 0) : Type 0 where
-  pub first_kept : (word : ℕ) → keeps (t.initial word)
-  pub after_nak_kept : (last nak : List ConfigOption) (word : ℕ) → keeps last → keeps (t.adapt_nak last nak word)
-  pub after_reject_kept : (last reject : List ConfigOption) (word : ℕ) → keeps last → keeps (t.adapt_reject last reject word)
+use Rattle.ppp_duet.specs.Reached.{KeptBy}
 
 -- What is used of a table: a property that it keeps, and against a list of which those lists are allowed that pass and
 -- those fit that are allowed.

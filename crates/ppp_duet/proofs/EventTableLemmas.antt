@@ -1,29 +1,19 @@
 -- What holds of each cell of the event table.
 use Rattle.std.proofs.Common.{◌≡◌, ◌⊎◌, Bool, true, false, ◌||◌, List, [], ◌∷◌, arith}
 use Rattle.ppp_auto.specs.declared.auto_state.AutoState.{AutoState}
-use Rattle.ppp_auto.specs.declared.auto_state.AutoState.TheVariants.{Initial, Starting, Closed, Stopped, Closing, Stopping}
 use Rattle.ppp_auto.specs.declared.input.Input.{Input}
 use Rattle.ppp_auto.specs.declared.input.Input.TheVariants.{Down, ReceiveConfigureRequestGood, ReceiveConfigureRequestBad, ReceiveConfigureAck}
 use Rattle.ppp_auto.specs.declared.action.Action.{Action}
 use Rattle.ppp_auto.specs.declared.action.Action.TheVariants.{SendConfigureAck, SendConfigureNak, SendEchoReply}
 use Rattle.ppp_auto.specs.Automaton.{is_heard, has_acked, is_idle, is_opened, is_stopped, begins_anew}
 use Rattle.ppp_duet.specs.Duet.{is_off}
+use Rattle.ppp_duet.specs.Reopening.{is_low}
 use Rattle.ppp_auto.specs.EventTable.{cell_of, asks, acks}
 
 abbrev pub is_request : Input → Bool
 is_request ReceiveConfigureRequestGood = true
 is_request ReceiveConfigureRequestBad = true
 is_request input = false
-
--- no negotiation is under way and none was finished
-abbrev pub is_low : AutoState → Bool
-is_low Initial = true
-is_low Starting = true
-is_low Closed = true
-is_low Stopped = true
-is_low Closing = true
-is_low Stopping = true
-is_low s = false
 
 abbrev answers_in : Action → Bool
 answers_in SendConfigureAck = true

@@ -3,12 +3,14 @@ use Rattle.std.proofs.Common.{◌≡◌, ℕ, ◌+◌, ◌%◌, ◌≤◌, ◌<�
 use Rattle.std.proofs.Math.Logic.{⊎_map}
 use Rattle.ppp_packet.specs.ConfigOption.{ConfigOption}
 use Rattle.ppp_auto.specs.Automaton.{is_heard, has_acked, is_opened}
-use Rattle.ppp_duet.specs.Duet.{End, Marked, requests}
+use Rattle.ppp_duet.specs.Duet.{End, Marked}
+use Rattle.ppp_duet.specs.Span.{requests}
 use Rattle.ppp_auto.specs.Packet.{Packet, Request, Ack, Nak, Reject, Other}
-use Rattle.ppp_duet.proofs.Arithmetic.{id_of}
-use Rattle.ppp_duet.proofs.Cells.{is_low}
+use Rattle.ppp_duet.proofs.Identifiers.{id_of}
+use Rattle.ppp_duet.specs.Reopening.{is_low}
 use Rattle.ppp_duet.proofs.Invariant.{Asked, Acked, Half, Judged}
-use Rattle.ppp_duet.proofs.Queues.{Every, every_weaker, every_append, Rising, rising_within, rising_to, MarkedBy, rising_append}
+use Rattle.ppp_duet.specs.Reached.{Every}
+use Rattle.ppp_duet.proofs.Queues.{every_weaker, every_append, Rising, rising_within, rising_to, MarkedBy, rising_append}
 
 -- What is sent by an end that has sent n requests, the last one with the own list: requests with these, and Acks of
 -- requests of the peer, up to the ordinal that the end took in last.
