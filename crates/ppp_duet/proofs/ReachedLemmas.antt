@@ -4,6 +4,7 @@ use Rattle.ppp_packet.specs.ConfigOption.{ConfigOption}
 use Rattle.ppp_auto.specs.declared.auto_state.AutoState.TheVariants.{Opened}
 use Rattle.ppp_duet.specs.Duet.{End, Duet, Marked, Setup, Side, Event, happens, run, start}
 use Rattle.ppp_auto.specs.Lawful.{Lawful}
+use Rattle.ppp_auto.specs.OptionTable.{Table}
 use Rattle.ppp_auto.specs.Packet.{Packet, Request, Ack, Nak, Reject, Other}
 use Rattle.ppp_duet.specs.NarrowRun.{NarrowIfTaken, IsNarrowWhereTaken}
 use Rattle.ppp_duet.specs.Agreement.{Agree}
@@ -17,7 +18,7 @@ use Rattle.ppp_duet.proofs.NarrowRunLemmas.{run_append, narrow_append}
 use Rattle.ppp_duet.proofs.Queues.{every_weaker}
 use Rattle.ppp_duet.specs.Reopening.{Waits}
 use Rattle.ppp_duet.proofs.ReopeningLemmas.{waits_left, waits_on, waits_entered}
-use Rattle.ppp_duet.specs.Reached.{Reached, IsKeptIn, Lists, Carried}
+use Rattle.ppp_duet.specs.Reached.{Reached, IsKeptIn, Lists, Carried, IdsFollow}
 
 pub reached_start : (sa sb : Setup) → Reached sa sb (start sa sb)
 reached_start sa sb = record { events = []; narrow = tt; ends = refl }
@@ -61,6 +62,24 @@ reached_holds sa sb keeps_a keeps_b allows_a allows_b compat used_a used_b d r =
     subst (Holds sa.first sb.first keeps_a keeps_b allows_a allows_b) r.ends
     (run_holds sa sb keeps_a keeps_b allows_a allows_b compat used_a used_b r.events (start sa sb) r.narrow
     (start_holds sa sb keeps_a keeps_b allows_a allows_b compat used_a used_b))
+
+-- every table keeps that a list is one
+any_used : (t : Table) → Used t (λ _. Unit {0}) (λ _ _. Unit {0}) (λ _ _. Unit {0})
+any_used t = record {
+  first = λ _. tt;
+  after_nak = λ _ _ _ _. tt;
+  after_reject = λ _ _ _ _. tt;
+  allowed = λ _ _ _ _ _. tt;
+  fits = λ _ _ _ _. tt;
+  fits_both = λ _ _ _. tt;
+}
+
+-- what holds whatever the tables
+any_holds : (sa sb : Setup) (d : Duet) → Reached sa sb d → Holds sa.first sb.first (λ _. Unit {0}) (λ _. Unit {0}) (λ _ _. Unit {0}) (λ _ _. Unit {0}) d
+any_holds sa sb d r = reached_holds sa sb (λ _. Unit {0}) (λ _. Unit {0}) (λ _ _. Unit {0}) (λ _ _. Unit {0}) (λ _ _. Unit {0}) (any_used sa.table) (any_used sb.table) d r
+
+pub ids_at : (sa sb : Setup) (d : Duet) → Reached sa sb d → IdsFollow sa sb d
+ids_at sa sb d r = let h = any_holds sa sb d r in record { of_a = h.of_a.ids; of_b = h.of_b.ids }
 
 module _ (sa sb : Setup) (sends_a sends_b : List ConfigOption → Type 0) (unknown_a unknown_b : ConfigOption → Type 0) (allows_a allows_b compat : List ConfigOption → List ConfigOption → Type 0)
     (lawful_a : Lawful sa.table sends_a unknown_a allows_a compat) (lawful_b : Lawful sb.table sends_b unknown_b allows_b compat) where
