@@ -1,5 +1,6 @@
 -- What holds of each cell of the event table.
-use Rattle.std.proofs.Common.{◌≡◌, ◌⊎◌, Bool, true, false, ◌||◌, List, [], ◌∷◌, arith}
+use Rattle.std.proofs.Common.{◌≡◌, ◌⊎◌, Bool, true, false, List, Option, Some, arith}
+use Rattle.std.specs.List.{list_any}
 use Rattle.ppp_auto.specs.declared.auto_state.AutoState.{AutoState}
 use Rattle.ppp_auto.specs.declared.input.Input.{Input}
 use Rattle.ppp_auto.specs.declared.input.Input.TheVariants.{Down, ReceiveConfigureRequestGood, ReceiveConfigureRequestBad, ReceiveConfigureAck}
@@ -10,9 +11,9 @@ use Rattle.ppp_duet.specs.Duet.{is_off}
 use Rattle.ppp_duet.specs.Reopening.{is_low}
 use Rattle.ppp_auto.specs.EventTable.{cell_of, asks, acks}
 
-abbrev pub is_request : Input → Bool
-is_request ReceiveConfigureRequestGood = true
-is_request ReceiveConfigureRequestBad = true
+abbrev pub is_request : Option Input → Bool
+is_request (Some ReceiveConfigureRequestGood) = true
+is_request (Some ReceiveConfigureRequestBad) = true
 is_request input = false
 
 abbrev answers_in : Action → Bool
@@ -22,27 +23,20 @@ answers_in SendEchoReply = true
 answers_in a = false
 
 -- whether the answer of a packet is sent
-abbrev pub answers : List Action → Bool
-answers [] = false
-answers (a ∷ as') = answers_in a || answers as'
-
-pub good_is_request : (i : Input) → is_request i ≡ false → i ≡ ReceiveConfigureRequestGood → ⊥
-good_is_request i h e = grind arith
-
-pub ack_is_none : (i : Input) → is_request i ≡ true → i ≡ ReceiveConfigureAck → ⊥
-ack_is_none i h e = grind arith
+abbrev pub sends_answer : List Action → Bool
+sends_answer actions = list_any answers_in actions
 
 -- what is granted was not asked for anew
 pub heard_asks_nothing : (i : Input) (s : AutoState) → is_heard (cell_of i s).next ≡ true → asks (cell_of i s).actions ≡ false
 heard_asks_nothing i s h = grind arith
 
-pub heard_from : (i : Input) (s : AutoState) → is_heard (cell_of i s).next ≡ true → (is_heard s ≡ true) ⊎ ((i ≡ ReceiveConfigureAck) × (is_idle s ≡ false))
+pub heard_from : (i : Input) (s : AutoState) → is_heard (cell_of i s).next ≡ true → (is_heard s ≡ true) ⊎ ((Some i ≡ Some ReceiveConfigureAck) × (is_idle s ≡ false))
 heard_from i s h = grind arith
 
-pub acked_from : (i : Input) (s : AutoState) → has_acked (cell_of i s).next ≡ true → acks (cell_of i s).actions ≡ false → (has_acked s ≡ true) × (is_request i ≡ false)
+pub acked_from : (i : Input) (s : AutoState) → has_acked (cell_of i s).next ≡ true → acks (cell_of i s).actions ≡ false → (has_acked s ≡ true) × (is_request (Some i) ≡ false)
 acked_from i s h k = grind arith
 
-pub acks_good : (i : Input) (s : AutoState) → acks (cell_of i s).actions ≡ true → (i ≡ ReceiveConfigureRequestGood) × (is_off s ≡ false)
+pub acks_good : (i : Input) (s : AutoState) → acks (cell_of i s).actions ≡ true → (Some i ≡ Some ReceiveConfigureRequestGood) × (is_off s ≡ false)
 acks_good i s h = grind arith
 
 -- a new request beside an Ack begins a negotiation in Stopped alone
@@ -52,7 +46,7 @@ acks_unasked i s h k = grind arith
 pub acks_anew : (i : Input) (s : AutoState) → acks (cell_of i s).actions ≡ true → begins_anew s ≡ is_stopped s
 acks_anew i s h = grind arith
 
-pub answers_on : (i : Input) (s : AutoState) → answers (cell_of i s).actions ≡ true → is_off s ≡ false
+pub answers_on : (i : Input) (s : AutoState) → sends_answer (cell_of i s).actions ≡ true → is_off s ≡ false
 answers_on i s h = grind arith
 
 -- a low state is left by a new request
@@ -64,7 +58,7 @@ pub opened_left : (i : Input) (s : AutoState) → is_opened s ≡ true → (is_o
 opened_left i s h = grind arith
 
 -- a request that is taken in ends Opened
-pub request_ends : (i : Input) (s : AutoState) → is_request i ≡ true → is_opened s ≡ true → is_opened (cell_of i s).next ≡ false
+pub request_ends : (i : Input) (s : AutoState) → is_request (Some i) ≡ true → is_opened s ≡ true → is_opened (cell_of i s).next ≡ false
 request_ends i s h k = grind arith
 
 pub down_low : (s : AutoState) → is_low (cell_of Down s).next ≡ true

@@ -5,6 +5,7 @@ pub mod Identifiers
 pub mod Invariant
 pub mod Moves
 pub mod NarrowRunLemmas
+pub mod Packets
 pub mod PacketMoves
 pub mod Queues
 pub mod ReachedLemmas
@@ -12,6 +13,7 @@ pub mod ReopeningLemmas
 pub mod ReplyLemmas
 pub mod RowMoves
 pub mod SpanLemmas
-pub mod Terms
+pub mod TermsLemmas
 pub mod Turns
 mod StandardFacts
+pub mod TakenLemmas

@@ -1,25 +1,16 @@
 -- What a row comes to at one end, and that it keeps the invariant: nothing is said here of tables, packets or rows.
 use Rattle.std.proofs.Common.{◌≡◌, ℕ, ◌+◌, ◌%◌, ◌≤◌, ◌<◌, ◌⊎◌, inl, inr, true, false, List, ◌++◌, sym, ◌∙◌, arith}
+use Rattle.std.specs.List.{AllByRecursion}
 use Rattle.std.proofs.Math.Logic.{⊎_map}
-use Rattle.ppp_packet.specs.ConfigOption.{ConfigOption}
 use Rattle.ppp_auto.specs.Automaton.{is_heard, has_acked, is_opened}
 use Rattle.ppp_duet.specs.Duet.{End, Marked}
-use Rattle.ppp_duet.specs.Span.{requests}
-use Rattle.ppp_auto.specs.Packet.{Packet, Request, Ack, Nak, Reject, Other}
-use Rattle.ppp_duet.proofs.Identifiers.{id_of}
 use Rattle.ppp_duet.specs.Reopening.{is_low}
+use Rattle.ppp_duet.specs.Span.{request_mark, answer_mark, requests}
+use Rattle.ppp_duet.specs.Terms.{Terms}
+use Rattle.ppp_duet.proofs.Identifiers.{id_of, last_is}
 use Rattle.ppp_duet.proofs.Invariant.{Asked, Acked, Half, Judged}
-use Rattle.ppp_duet.specs.Reached.{Every}
-use Rattle.ppp_duet.proofs.Queues.{every_weaker, every_append, Rising, rising_within, rising_to, MarkedBy, rising_append}
-
--- What is sent by an end that has sent n requests, the last one with the own list: requests with these, and Acks of
--- requests of the peer, up to the ordinal that the end took in last.
-abbrev pub Sent : ℕ → ℕ → ℕ → List ConfigOption → ℕ → ℕ → Packet → Type 0
-Sent first_x first_y n own got mark (Request id options) = (mark ≡ n) × (id ≡ id_of first_x n) × (options ≡ own)
-Sent first_x first_y n own got mark (Ack id options) = (id ≡ id_of first_y mark) × (mark ≤ got)
-Sent first_x first_y n own got mark (Nak id options) = Unit {0}
-Sent first_x first_y n own got mark (Reject id options) = Unit {0}
-Sent first_x first_y n own got mark (Other code id octets) = Unit {0}
+use Rattle.ppp_duet.proofs.Packets.{Sent, sent_requests, sent_answers}
+use Rattle.ppp_duet.proofs.Queues.{ack_answers, all_weaker, all_append, Rising, rising_within, rising_newest}
 
 -- the peer's list stood acknowledged, and stands
 pub record Stood (x x' : End) : Type 0 where
@@ -29,130 +20,107 @@ pub record Stood (x x' : End) : Type 0 where
   pub against : x'.against ≡ x.against
 
 -- the peer's list was acknowledged just now
-pub record Fresh (keeps_y : List ConfigOption → Type 0) (allows_x : List ConfigOption → List ConfigOption → Type 0) (x' y : End) : Type 0 where
+pub record Fresh (tx ty : Terms) (x' y : End) : Type 0 where
   pub against : x'.against ≡ x'.auto.own
-  pub allowed : allows_x x'.against x'.auto.peer
+  pub allowed : tx.allows x'.against x'.auto.peer
   pub knows : x'.got ≡ y.n → x'.auto.peer ≡ y.auto.own
-  pub keeps_peer : keeps_y x'.auto.peer
+  pub keeps_peer : ty.keeps x'.auto.peer
+
+-- an answer of that mark and Identifier is one to the request taken in last
+abbrev pub AnswersTo : Terms → ℕ → ℕ → ℕ → Type 0
+AnswersTo ty got mark id = (id ≡ id_of ty.setup.first mark) × (mark ≡ got)
+
+abbrev pub SentBy : Terms → End → Marked → Type 0
+SentBy ty x m = Sent x.n x.auto (AnswersTo ty x.got) m
 
 -- The end `x` became `x'` and sent packets, and `y` is the other end.
-pub record Moved (first_x first_y : ℕ) (keeps_x keeps_y : List ConfigOption → Type 0) (allows_x : List ConfigOption → List ConfigOption → Type 0) (x y x' : End) (sent : List Marked) : Type 0 where
-  pub ids : x'.auto.next_id % 256 ≡ (first_x + x'.n) % 256
+pub record Move (tx ty : Terms) (x y x' : End) (sent : List Marked) : Type 0 where
+  pub ids : x'.auto.next_id % 256 ≡ (tx.setup.first + x'.n) % 256
   pub more : x.n ≤ x'.n
   pub same : x'.n ≡ x.n → x'.auto.own ≡ x.auto.own
-  pub sends : Every (Sent first_x first_y x'.n x'.auto.own x'.got) sent
+  pub sends : AllByRecursion (SentBy ty x') sent
   pub heard : is_heard x'.auto.state ≡ true → y.got ≡ x'.n
-  pub keeps_own : keeps_x x'.auto.own
-  pub acked : has_acked x'.auto.state ≡ true → Stood x x' ⊎ Fresh keeps_y allows_x x' y
+  pub keeps_own : tx.keeps x'.auto.own
+  pub acked : has_acked x'.auto.state ≡ true → Stood x x' ⊎ Fresh tx ty x' y
   -- of use where an end opens again
   pub low : is_low x.auto.state ≡ true → (is_low x'.auto.state ≡ true) ⊎ (x.n < x'.n)
   pub left : is_opened x.auto.state ≡ true → (is_opened x'.auto.state ≡ true) ⊎ (is_low x'.auto.state ≡ true) ⊎ (x.n < x'.n)
   pub took : (x'.got ≡ x.got) ⊎ (is_opened x.auto.state ≡ false) ⊎ (is_opened x'.auto.state ≡ false)
 
-module _ (first_x first_y : ℕ) (keeps_x keeps_y : List ConfigOption → Type 0) (allows_x allows_y : List ConfigOption → List ConfigOption → Type 0) where
-  -- the requests that were under way
-  asked_before : (x x' : End) → x.n ≤ x'.n → (x'.n ≡ x.n → x'.auto.own ≡ x.auto.own) →
-      (mark : ℕ) (p : Packet) → Asked first_x keeps_x x.n x.auto.own mark p → Asked first_x keeps_x x'.n x'.auto.own mark p
-  asked_before x x' more same mark (Request id options) h =
-      (h.0, omega (arith, h.1), (λ newest. h.2 (omega (arith, h.1)) ∙ sym (same (omega (arith, h.1)))), h.3)
-  asked_before x x' more same mark (Ack id options) h = tt
-  asked_before x x' more same mark (Nak id options) h = tt
-  asked_before x x' more same mark (Reject id options) h = tt
-  asked_before x x' more same mark (Other code id octets) h = tt
+module _ (tx ty : Terms) where
+  -- the requests that were under way, and those that were sent
+  asked_before : (x x' : End) → x.n ≤ x'.n → (x'.n ≡ x.n → x'.auto.own ≡ x.auto.own) → (m : Marked) → Asked tx x m → Asked tx x' m
+  asked_before x x' more same m h id is =
+      let k = h id is in
+      (k.0, omega (arith, k.1), (λ newest. k.2 (omega (arith, k.1)) ∙ sym (same (omega (arith, k.1)))), k.3)
 
-  -- and those that were sent
-  asked_now : (n got : ℕ) (own : List ConfigOption) → keeps_x own →
-      (mark : ℕ) (p : Packet) → Sent first_x first_y n own got mark p → Asked first_x keeps_x n own mark p
-  asked_now n got own k mark (Request id options) h = (rw h.0 h.1, omega (arith, h.0), (λ newest. h.2), rw h.2 k)
-  asked_now n got own k mark (Ack id options) h = tt
-  asked_now n got own k mark (Nak id options) h = tt
-  asked_now n got own k mark (Reject id options) h = tt
-  asked_now n got own k mark (Other code id octets) h = tt
+  asked_now : (x y x' : End) (sent : List Marked) → Move tx ty x y x' sent → (m : Marked) → SentBy ty x' m → Asked tx x' m
+  asked_now x y x' sent move m s id is =
+      let k = s.asks id is in
+      (rw k.0 (k.1 ∙ last_is tx.setup.first x'.auto.next_id x'.n move.ids), omega (arith, k.0), (λ _. k.2), rw k.2 move.keeps_own)
 
-  marked_now : (n got : ℕ) (own : List ConfigOption) (mark : ℕ) (p : Packet) → Sent first_x first_y n own got mark p → MarkedBy n mark p
-  marked_now n got own mark (Request id options) h = h.0
-  marked_now n got own mark (Ack id options) h = tt
-  marked_now n got own mark (Nak id options) h = tt
-  marked_now n got own mark (Reject id options) h = tt
-  marked_now n got own mark (Other code id octets) h = tt
-
-  acked_before : (got got' : ℕ) → got ≤ got' → (mark : ℕ) (p : Packet) → Acked first_y got mark p → Acked first_y got' mark p
-  acked_before got got' e mark (Request id options) h = tt
-  acked_before got got' e mark (Ack id options) h = (h.0, omega (arith, h.1))
-  acked_before got got' e mark (Nak id options) h = tt
-  acked_before got got' e mark (Reject id options) h = tt
-  acked_before got got' e mark (Other code id octets) h = tt
-
-  acked_now : (n got : ℕ) (own : List ConfigOption) (mark : ℕ) (p : Packet) → Sent first_x first_y n own got mark p → Acked first_y got mark p
-  acked_now n got own mark (Request id options) h = tt
-  acked_now n got own mark (Ack id options) h = h
-  acked_now n got own mark (Nak id options) h = tt
-  acked_now n got own mark (Reject id options) h = tt
-  acked_now n got own mark (Other code id octets) h = tt
+  acked_now : (x' : End) (m : Marked) → SentBy ty x' m → Acked ty m
+  acked_now x' m s id is = (s.replies id (ack_answers m.packet id is)).0
 
   -- of the requests of the end that moved
-  pub own_half : (x y x' : End) (out rest sent : List Marked) → Half first_x keeps_x allows_y x y out rest →
-      Moved first_x first_y keeps_x keeps_y allows_x x y x' sent → Half first_x keeps_x allows_y x' y (out ++ sent) rest
-  own_half x y x' out rest sent h m =
+  pub own_half : (x y x' : End) (out rest sent : List Marked) → Half tx ty x y out rest → Move tx ty x y x' sent → Half tx ty x' y (out ++ sent) rest
+  own_half x y x' out rest sent h move =
       let below : y.got ≤ x.n = rising_within y.got x.n (requests out) h.rising in
       record {
-        ids = m.ids;
-        rising = rising_append y.got x'.n out sent (rising_to y.got x.n x'.n (requests out) m.more h.rising)
-            (every_weaker (marked_now x'.n x'.got x'.auto.own) sent m.sends);
-        asked = every_append (Asked first_x keeps_x x'.n x'.auto.own) out sent (every_weaker (asked_before x x' m.more m.same) out h.asked)
-            (every_weaker (asked_now x'.n x'.got x'.auto.own m.keeps_own) sent m.sends);
+        ids = move.ids;
+        asked = all_append (Asked tx x') out sent (all_weaker (asked_before x x' move.more move.same) out h.asked)
+            (all_weaker (asked_now x y x' sent move) sent move.sends);
         acked = h.acked;
-        heard = m.heard;
-        keeps_own = m.keeps_own;
+        rising = rising_newest (λ m. request_mark m.mark m.packet) y.got x.n x'.n out sent move.more h.rising (sent_requests x'.n x'.auto (AnswersTo ty x'.got) sent move.sends);
+        answered = h.answered;
+        heard = move.heard;
+        keeps_own = move.keeps_own;
         allowed = h.allowed;
-        knows = λ acked newest. let stays : x'.n ≡ x.n = omega (arith, m.more) in h.knows acked (newest ∙ stays) ∙ sym (m.same stays);
+        knows = λ acked newest. let stays : x'.n ≡ x.n = omega (arith, move.more) in h.knows acked (newest ∙ stays) ∙ sym (move.same stays);
         keeps_peer = h.keeps_peer;
       }
 
-  allowed_now : (x y x' : End) → (has_acked x.auto.state ≡ true → allows_x x.against x.auto.peer) →
-      Stood x x' ⊎ Fresh keeps_y allows_x x' y → allows_x x'.against x'.auto.peer
+  allowed_now : (x y x' : End) → (has_acked x.auto.state ≡ true → tx.allows x.against x.auto.peer) → Stood x x' ⊎ Fresh tx ty x' y → tx.allows x'.against x'.auto.peer
   allowed_now x y x' h (inl s) = rw (s.against, s.peer) (h s.before)
   allowed_now x y x' h (inr f) = f.allowed
 
   knows_now : (x y x' : End) → (has_acked x.auto.state ≡ true → x.got ≡ y.n → x.auto.peer ≡ y.auto.own) →
-      x'.got ≡ y.n → Stood x x' ⊎ Fresh keeps_y allows_x x' y → x'.auto.peer ≡ y.auto.own
+      x'.got ≡ y.n → Stood x x' ⊎ Fresh tx ty x' y → x'.auto.peer ≡ y.auto.own
   knows_now x y x' h newest (inl s) = s.peer ∙ h s.before (sym s.got ∙ newest)
   knows_now x y x' h newest (inr f) = f.knows newest
 
-  keeps_now : (x y x' : End) → (has_acked x.auto.state ≡ true → keeps_y x.auto.peer) →
-      Stood x x' ⊎ Fresh keeps_y allows_x x' y → keeps_y x'.auto.peer
+  keeps_now : (x y x' : End) → (has_acked x.auto.state ≡ true → ty.keeps x.auto.peer) → Stood x x' ⊎ Fresh tx ty x' y → ty.keeps x'.auto.peer
   keeps_now x y x' h (inl s) = rw s.peer (h s.before)
   keeps_now x y x' h (inr f) = f.keeps_peer
 
   -- of the requests of the other end, over what is left of its queue
-  pub other_half : (x y x' : End) (out before rest sent : List Marked) → Half first_y keeps_y allows_x y x before out →
-      Every (Asked first_y keeps_y y.n y.auto.own) rest → Rising x'.got y.n (requests rest) → x.got ≤ x'.got →
-      Moved first_x first_y keeps_x keeps_y allows_x x y x' sent → Half first_y keeps_y allows_x y x' rest (out ++ sent)
-  other_half x y x' out before rest sent h asked rising later m =
+  pub other_half : (x y x' : End) (out before rest sent : List Marked) → Half ty tx y x before out →
+      AllByRecursion (Asked ty y) rest → Rising x'.got y.n (requests rest) → x.got ≤ x'.got → Move tx ty x y x' sent → Half ty tx y x' rest (out ++ sent)
+  other_half x y x' out before rest sent h asked rising later move =
       let below : x'.got ≤ y.n = rising_within x'.got y.n (requests rest) rising in
       record {
         ids = h.ids;
-        rising = rising;
         asked = asked;
-        acked = every_append (Acked first_y x'.got) out sent (every_weaker (acked_before x.got x'.got later) out h.acked)
-            (every_weaker (acked_now x'.n x'.got x'.auto.own) sent m.sends);
+        acked = all_append (Acked ty) out sent h.acked (all_weaker (acked_now x') sent move.sends);
+        rising = rising;
+        answered = rising_newest (λ m. answer_mark m.mark m.packet) 0 x.got x'.got out sent later h.answered
+            (sent_answers x'.n x'.auto (AnswersTo ty x'.got) (λ mark. mark ≡ x'.got) (λ mark id k. k.1) sent move.sends);
         heard = λ heard. let was : x.got ≡ y.n = h.heard heard in omega arith;
         keeps_own = h.keeps_own;
-        allowed = λ acked. allowed_now x y x' h.allowed (m.acked acked);
-        knows = λ acked newest. knows_now x y x' h.knows newest (m.acked acked);
-        keeps_peer = λ acked. keeps_now x y x' h.keeps_peer (m.acked acked);
+        allowed = λ acked. allowed_now x y x' h.allowed (move.acked acked);
+        knows = λ acked newest. knows_now x y x' h.knows newest (move.acked acked);
+        keeps_peer = λ acked. keeps_now x y x' h.keeps_peer (move.acked acked);
       }
 
   judged_now : (x y x' : End) → Judged x y → has_acked y.auto.state ≡ true → x'.got ≡ y.n → y.got ≡ x.n → x'.auto.own ≡ x.auto.own →
-      Stood x x' ⊎ Fresh keeps_y allows_x x' y → (x'.against ≡ x'.auto.own) ⊎ (y.against ≡ y.auto.own)
+      Stood x x' ⊎ Fresh tx ty x' y → (x'.against ≡ x'.auto.own) ⊎ (y.against ≡ y.auto.own)
   judged_now x y x' h acked newest got own (inl s) =
       ⊎_map (λ e. s.against ∙ e ∙ sym own) (λ e. e) (h s.before acked (sym s.got ∙ newest) got)
   judged_now x y x' h acked newest got own (inr f) = inl f.against
 
   -- of both
-  pub both_judged : (x y x' : End) (out rest sent : List Marked) → Half first_x keeps_x allows_y x y out rest → Judged x y →
-      Moved first_x first_y keeps_x keeps_y allows_x x y x' sent → Judged x' y
-  both_judged x y x' out rest sent h j m mine acked newest got =
+  pub both_judged : (x y x' : End) (out rest sent : List Marked) → Half tx ty x y out rest → Judged x y → Move tx ty x y x' sent → Judged x' y
+  both_judged x y x' out rest sent h j move mine acked newest got =
       let below : y.got ≤ x.n = rising_within y.got x.n (requests out) h.rising in
-      let stays : x'.n ≡ x.n = omega (arith, m.more) in
-      judged_now x y x' j acked newest (got ∙ stays) (m.same stays) (m.acked mine)
+      let stays : x'.n ≡ x.n = omega (arith, move.more) in
+      judged_now x y x' j acked newest (got ∙ stays) (move.same stays) (move.acked mine)

@@ -1,20 +1,11 @@
 -- Narrow runs and their parts.
 use Rattle.std.proofs.Common.{◌≡◌, List, [], ◌∷◌, ◌++◌, refl}
-use Rattle.ppp_duet.specs.Duet.{Duet, Setup, Happening, Commands, SetsCap, RejectsProtocol, Delivers, Loses, Reboots, Event, happens, run}
-use Rattle.ppp_duet.specs.Span.{Narrow}
-use Rattle.ppp_duet.specs.NarrowRun.{IsNarrowRun, NarrowIfTaken, IsNarrowWhereTaken}
-
-taken_if : (what : Happening) (d : Duet) → Narrow d → NarrowIfTaken what d
-taken_if (Commands e) d h = tt
-taken_if (SetsCap cap) d h = tt
-taken_if (RejectsProtocol id octets) d h = tt
-taken_if Delivers d h = h
-taken_if (Loses place) d h = tt
-taken_if Reboots d h = tt
+use Rattle.ppp_duet.specs.Duet.{Duet, Setup, Event, happens, run}
+use Rattle.ppp_duet.specs.NarrowRun.{IsNarrowRun, IsNarrowWhereTaken}
 
 pub where_taken : (sa sb : Setup) (es : List Event) (d : Duet) → IsNarrowRun sa sb es d → IsNarrowWhereTaken sa sb es d
 where_taken sa sb [] d h = tt
-where_taken sa sb (e ∷ es) d h = (taken_if e.what d h.0, where_taken sa sb es (happens sa sb d e) h.1)
+where_taken sa sb (e ∷ es) d h = ((λ _. h.0), where_taken sa sb es (happens sa sb d e) h.1)
 
 pub run_append : (sa sb : Setup) (es fs : List Event) (d : Duet) → run sa sb (es ++ fs) d ≡ run sa sb fs (run sa sb es d)
 run_append sa sb [] fs d = refl

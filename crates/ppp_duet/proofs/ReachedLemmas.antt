@@ -1,28 +1,28 @@
--- States that a list of events leads to from the start: what layers above cite.
-use Rattle.std.proofs.Common.{◌≡◌, ℕ, inr, List, [], ◌∷◌, ◌++◌, refl, sym, ap, subst, ◌∙◌}
+-- What holds of every state that is reached: what layers above cite.
+use Rattle.std.proofs.Common.{◌≡◌, inr, List, [], ◌∷◌, ◌++◌, take, refl, sym, ap, subst, ◌∙◌}
 use Rattle.ppp_packet.specs.ConfigOption.{ConfigOption}
 use Rattle.ppp_auto.specs.declared.auto_state.AutoState.TheVariants.{Opened}
-use Rattle.ppp_duet.specs.Duet.{End, Duet, Marked, Setup, Side, Event, happens, run, start}
-use Rattle.ppp_auto.specs.Lawful.{Lawful}
-use Rattle.ppp_auto.specs.OptionTable.{Table}
-use Rattle.ppp_auto.specs.Packet.{Packet, Request, Ack, Nak, Reject, Other}
-use Rattle.ppp_duet.specs.NarrowRun.{NarrowIfTaken, IsNarrowWhereTaken}
+use Rattle.ppp_auto.specs.Packet.{Request}
 use Rattle.ppp_duet.specs.Agreement.{Agree}
-use Rattle.ppp_duet.specs.Reopening.{end_beyond, IsOpenedAt}
+use Rattle.ppp_duet.specs.Duet.{End, Duet, Marked, Setup, Side, Event, happens, run, start}
+use Rattle.ppp_duet.specs.NarrowRun.{NarrowIfTaken, IsNarrowWhereTaken}
+use Rattle.ppp_duet.specs.Reached.{Reached, IsKeptIn, Lists, Carried, IdsFollow, OldestFirst}
+use Rattle.ppp_duet.specs.Reopening.{end_beyond, IsOpenedAt, Waits}
+use Rattle.ppp_duet.specs.Span.{requests, answers, least}
+use Rattle.ppp_duet.specs.Terms.{Terms, AreLawful, KeptBy}
 use Rattle.ppp_duet.proofs.AgreementLemmas.{opened_agree}
 use Rattle.ppp_duet.proofs.Events.{run_holds, start_holds}
 use Rattle.ppp_duet.proofs.Invariant.{Asked, Half, Holds}
-use Rattle.ppp_duet.specs.Reached.{KeptBy}
-use Rattle.ppp_duet.proofs.Terms.{SentAnd, Used, used, used_with}
 use Rattle.ppp_duet.proofs.NarrowRunLemmas.{run_append, narrow_append}
-use Rattle.ppp_duet.proofs.Queues.{every_weaker}
-use Rattle.ppp_duet.specs.Reopening.{Waits}
+use Rattle.ppp_duet.proofs.Queues.{all_weaker, options_in, rising_within}
 use Rattle.ppp_duet.proofs.ReopeningLemmas.{waits_left, waits_on, waits_entered}
-use Rattle.ppp_duet.specs.Reached.{Reached, IsKeptIn, Lists, Carried, IdsFollow}
+use Rattle.ppp_duet.proofs.SpanLemmas.{oldest_first}
+use Rattle.ppp_duet.proofs.TermsLemmas.{Used, used, with_kept, used_with, plain_terms, plain_used}
 
 pub reached_start : (sa sb : Setup) → Reached sa sb (start sa sb)
 reached_start sa sb = record { events = []; narrow = tt; ends = refl }
 
+-- one event more
 pub reached_on : (sa sb : Setup) (d : Duet) (e : Event) → NarrowIfTaken e.what d → Reached sa sb d → Reached sa sb (happens sa sb d e)
 reached_on sa sb d e narrow r = record {
   events = r.events ++ e ∷ [];
@@ -39,83 +39,68 @@ pub reached_more : (sa sb : Setup) (d : Duet) (es : List Event) → IsNarrowWher
 reached_more sa sb d [] narrow r = r
 reached_more sa sb d (e ∷ es) narrow r = reached_more sa sb (happens sa sb d e) es narrow.1 (reached_on sa sb d e narrow.0 r)
 
-asked_kept : (sends keeps : List ConfigOption → Type 0) (first n : ℕ) (own : List ConfigOption) (mark : ℕ) (p : Packet) →
-    Asked first (SentAnd sends keeps) n own mark p → IsKeptIn keeps mark p
-asked_kept sends keeps first n own mark (Request id options) h = h.3.1
-asked_kept sends keeps first n own mark (Ack id options) h = tt
-asked_kept sends keeps first n own mark (Nak id options) h = tt
-asked_kept sends keeps first n own mark (Reject id options) h = tt
-asked_kept sends keeps first n own mark (Other code id octets) h = tt
-
-lists : (sends keeps : List ConfigOption → Type 0) (allows : List ConfigOption → List ConfigOption → Type 0) (first : ℕ) (e f : End) (out back : List Marked) →
-    Half first (SentAnd sends keeps) allows e f out back → Lists keeps e f out
-lists sends keeps allows first e f out back h = record {
-  own = h.keeps_own.1;
-  under_way = every_weaker (asked_kept sends keeps first e.n e.auto.own) out h.asked;
-  acknowledged = λ acked. (h.keeps_peer acked).1;
-}
-
 -- the invariant, for a property of lists that each end's table keeps
-pub reached_holds : (sa sb : Setup) (keeps_a keeps_b : List ConfigOption → Type 0) (allows_a allows_b compat : List ConfigOption → List ConfigOption → Type 0) →
-    Used sa.table keeps_a allows_a compat → Used sb.table keeps_b allows_b compat → (d : Duet) → Reached sa sb d → Holds sa.first sb.first keeps_a keeps_b allows_a allows_b d
-reached_holds sa sb keeps_a keeps_b allows_a allows_b compat used_a used_b d r =
-    subst (Holds sa.first sb.first keeps_a keeps_b allows_a allows_b) r.ends
-    (run_holds sa sb keeps_a keeps_b allows_a allows_b compat used_a used_b r.events (start sa sb) r.narrow
-    (start_holds sa sb keeps_a keeps_b allows_a allows_b compat used_a used_b))
-
--- every table keeps that a list is one
-any_used : (t : Table) → Used t (λ _. Unit {0}) (λ _ _. Unit {0}) (λ _ _. Unit {0})
-any_used t = record {
-  first = λ _. tt;
-  after_nak = λ _ _ _ _. tt;
-  after_reject = λ _ _ _ _. tt;
-  allowed = λ _ _ _ _ _. tt;
-  fits = λ _ _ _ _. tt;
-  fits_both = λ _ _ _. tt;
-}
+pub reached_holds : (compat : List ConfigOption → List ConfigOption → Type 0) (ta tb : Terms) → Used compat ta → Used compat tb → (d : Duet) → Reached ta.setup tb.setup d → Holds ta tb d
+reached_holds compat ta tb used_a used_b d r =
+    subst (Holds ta tb) r.ends (run_holds compat ta tb used_a used_b r.events (start ta.setup tb.setup) r.narrow (start_holds compat ta tb used_a used_b))
 
 -- what holds whatever the tables
-any_holds : (sa sb : Setup) (d : Duet) → Reached sa sb d → Holds sa.first sb.first (λ _. Unit {0}) (λ _. Unit {0}) (λ _ _. Unit {0}) (λ _ _. Unit {0}) d
-any_holds sa sb d r = reached_holds sa sb (λ _. Unit {0}) (λ _. Unit {0}) (λ _ _. Unit {0}) (λ _ _. Unit {0}) (λ _ _. Unit {0}) (any_used sa.table) (any_used sb.table) d r
+any_holds : (sa sb : Setup) (d : Duet) → Reached sa sb d → Holds (plain_terms sa) (plain_terms sb) d
+any_holds sa sb d r = reached_holds (λ _ _. Unit {0}) (plain_terms sa) (plain_terms sb) (plain_used sa) (plain_used sb) d r
 
 pub ids_at : (sa sb : Setup) (d : Duet) → Reached sa sb d → IdsFollow sa sb d
 ids_at sa sb d r = let h = any_holds sa sb d r in record { of_a = h.of_a.ids; of_b = h.of_b.ids }
 
-module _ (sa sb : Setup) (sends_a sends_b : List ConfigOption → Type 0) (unknown_a unknown_b : ConfigOption → Type 0) (allows_a allows_b compat : List ConfigOption → List ConfigOption → Type 0)
-    (lawful_a : Lawful sa.table sends_a unknown_a allows_a compat) (lawful_b : Lawful sb.table sends_b unknown_b allows_b compat) where
-  reached_sends : (d : Duet) → Reached sa sb d → Holds sa.first sb.first sends_a sends_b allows_a allows_b d
-  reached_sends = reached_holds sa sb sends_a sends_b allows_a allows_b compat
-      (used sa.table sends_a unknown_a allows_a compat lawful_a) (used sb.table sends_b unknown_b allows_b compat lawful_b)
+oldest : (te tf : Terms) (e f : End) (out back : List Marked) → Half te tf e f out back →
+    least e.n (requests out ++ answers back) ≡ least e.n (take 1 (requests out) ++ take 1 (answers back))
+oldest te tf e f out back h = oldest_first f.got f.got e.n (requests out) (answers back) (rising_within f.got e.n (requests out) h.rising) h.rising h.answered
 
-  pub agreement_at : (d : Duet) → Reached sa sb d → d.a.auto.state ≡ Opened → d.b.auto.state ≡ Opened → Agree sends_a sends_b allows_a allows_b compat d
-  agreement_at d r = opened_agree sa sb sends_a sends_b allows_a allows_b compat
-      (used sa.table sends_a unknown_a allows_a compat lawful_a) (used sb.table sends_b unknown_b allows_b compat lawful_b) d (reached_sends d r)
+pub oldest_at : (sa sb : Setup) (d : Duet) → Reached sa sb d → OldestFirst d
+oldest_at sa sb d r =
+    let ta = plain_terms sa in
+    let tb = plain_terms sb in
+    let h = any_holds sa sb d r in
+    record { of_a = oldest ta tb d.a d.b d.to_b d.to_a h.of_a; of_b = oldest tb ta d.b d.a d.to_a d.to_b h.of_b }
+
+asked_kept : (t : Terms) (keeps : List ConfigOption → Type 0) (e : End) (m : Marked) → Asked (with_kept t keeps) e m → IsKeptIn keeps m
+asked_kept t keeps e m h id options is = let k : keeps (options_in (Request id options)) = rw is at (h id (rw is)).3.1 in k
+
+lists : (te tf : Terms) (keeps : List ConfigOption → Type 0) (e f : End) (out back : List Marked) → Half (with_kept te keeps) tf e f out back → Lists keeps e f out
+lists te tf keeps e f out back h = record {
+  own = h.keeps_own.1;
+  under_way = all_weaker (asked_kept te keeps e) out h.asked;
+  acknowledged = λ acked. (h.keeps_peer acked).1;
+}
+
+module _ (compat : List ConfigOption → List ConfigOption → Type 0) (ta tb : Terms) (lawful_a : AreLawful compat ta) (lawful_b : AreLawful compat tb) where
+  reached_sends : (d : Duet) → Reached ta.setup tb.setup d → Holds ta tb d
+  reached_sends = reached_holds compat ta tb (used compat ta lawful_a) (used compat tb lawful_b)
+
+  pub agreement_at : (d : Duet) → Reached ta.setup tb.setup d → d.a.auto.state ≡ Opened → d.b.auto.state ≡ Opened → Agree ta.keeps tb.keeps ta.allows tb.allows compat d
+  agreement_at d r = opened_agree compat ta tb (used compat ta lawful_a) (used compat tb lawful_b) d (reached_sends d r)
 
   -- a property that a table keeps is one of each list that its end asks for and the other one acknowledged
-  pub carried_at : (keeps_a keeps_b : List ConfigOption → Type 0) → KeptBy sa.table keeps_a → KeptBy sb.table keeps_b → (d : Duet) → Reached sa sb d → Carried keeps_a keeps_b d
+  pub carried_at : (keeps_a keeps_b : List ConfigOption → Type 0) → KeptBy ta.setup.table keeps_a → KeptBy tb.setup.table keeps_b → (d : Duet) → Reached ta.setup tb.setup d →
+      Carried keeps_a keeps_b d
   carried_at keeps_a keeps_b kept_a kept_b d r =
-      let h = reached_holds sa sb (SentAnd sends_a keeps_a) (SentAnd sends_b keeps_b) allows_a allows_b compat
-      (used_with sa.table sends_a unknown_a allows_a compat keeps_a lawful_a kept_a) (used_with sb.table sends_b unknown_b allows_b compat keeps_b lawful_b kept_b) d r in
-      record {
-        of_a = lists sends_a keeps_a allows_b sa.first d.a d.b d.to_b d.to_a h.of_a;
-        of_b = lists sends_b keeps_b allows_a sb.first d.b d.a d.to_a d.to_b h.of_b;
-      }
+      let ka = with_kept ta keeps_a in
+      let kb = with_kept tb keeps_b in
+      let h = reached_holds compat ka kb (used_with compat ta keeps_a lawful_a kept_a) (used_with compat tb keeps_b lawful_b kept_b) d r in
+      record { of_a = lists ta kb keeps_a d.a d.b d.to_b d.to_a h.of_a; of_b = lists tb ka keeps_b d.b d.a d.to_a d.to_b h.of_b }
 
   -- an end leaves Opened
-  pub left_at : (out : Type 0) (side : Side) (d : Duet) (e : Event) → Reached sa sb d → NarrowIfTaken e.what d →
-      IsOpenedAt side d → ¬ (IsOpenedAt side (happens sa sb d e)) → Waits out side (happens sa sb d e)
-  left_at out side d e r narrow opened left = inr (waits_left sa sb sends_a sends_b allows_a allows_b compat
-      (used sa.table sends_a unknown_a allows_a compat lawful_a) (used sb.table sends_b unknown_b allows_b compat lawful_b) side d e narrow (reached_sends d r) opened left)
+  pub left_at : (out : Type 0) (side : Side) (d : Duet) (e : Event) → Reached ta.setup tb.setup d → NarrowIfTaken e.what d →
+      IsOpenedAt side d → ¬ (IsOpenedAt side (happens ta.setup tb.setup d e)) → Waits out side (happens ta.setup tb.setup d e)
+  left_at out side d e r narrow opened left =
+      inr (waits_left compat ta tb (used compat ta lawful_a) (used compat tb lawful_b) side d e narrow (reached_sends d r) opened left)
 
   -- one event later
-  pub onward_at : (out : Type 0) (side : Side) (d : Duet) (e : Event) → Reached sa sb d → NarrowIfTaken e.what d →
-      (¬ ((end_beyond side d).auto.state ≡ Opened) → out) → (¬ ((end_beyond side (happens sa sb d e)).auto.state ≡ Opened) → out) →
-      Waits out side d → Waits out side (happens sa sb d e)
-  onward_at out side d e r narrow = waits_on sa sb sends_a sends_b allows_a allows_b compat
-      (used sa.table sends_a unknown_a allows_a compat lawful_a) (used sb.table sends_b unknown_b allows_b compat lawful_b) out side d e narrow (reached_sends d r)
+  pub onward_at : (out : Type 0) (side : Side) (d : Duet) (e : Event) → Reached ta.setup tb.setup d → NarrowIfTaken e.what d →
+      (¬ ((end_beyond side d).auto.state ≡ Opened) → out) → (¬ ((end_beyond side (happens ta.setup tb.setup d e)).auto.state ≡ Opened) → out) →
+      Waits out side d → Waits out side (happens ta.setup tb.setup d e)
+  onward_at out side d e r narrow = waits_on compat ta tb (used compat ta lawful_a) (used compat tb lawful_b) out side d e narrow (reached_sends d r)
 
   -- an end enters Opened, so the other one was outside it
-  pub entered_at : (out : Type 0) (side : Side) (d : Duet) (e : Event) → Reached sa sb d → NarrowIfTaken e.what d →
-      IsOpenedAt side (happens sa sb d e) → Waits out side d → out
-  entered_at out side d e r narrow = waits_entered sa sb sends_a sends_b allows_a allows_b compat
-      (used sa.table sends_a unknown_a allows_a compat lawful_a) (used sb.table sends_b unknown_b allows_b compat lawful_b) out side d e narrow (reached_sends d r)
+  pub entered_at : (out : Type 0) (side : Side) (d : Duet) (e : Event) → Reached ta.setup tb.setup d → NarrowIfTaken e.what d →
+      IsOpenedAt side (happens ta.setup tb.setup d e) → Waits out side d → out
+  entered_at out side d e r narrow = waits_entered compat ta tb (used compat ta lawful_a) (used compat tb lawful_b) out side d e narrow (reached_sends d r)

@@ -17,13 +17,15 @@ pub record Agree (sends_a sends_b : List ConfigOption → Type 0) (allows_a allo
   pub a_allows : allows_a d.a.against d.b.auto.own
   pub fits : compat d.a.auto.own d.b.auto.own
 
--- Whatever happens, and whatever the first Identifiers: where each state so far is narrow, two Opened ends agree.
-abbrev pub Agreement : Table → Table → (sends_a sends_b : List ConfigOption → Type 0) (allows_a allows_b compat : List ConfigOption → List ConfigOption → Type 0) → Type 0
-Agreement ta tb sends_a sends_b allows_a allows_b compat =
+-- Whatever happens, and whatever the first Identifiers: where each state so far is narrow, two Opened ends agree, for
+-- two values `a` and `b` of what answers the tables.
+abbrev pub Agreement : {V : Type 0} → (table : V → Table) (sendable : V → List ConfigOption → Type 0) (allows : V → List ConfigOption → List ConfigOption → Type 0)
+    (compat : List ConfigOption → List ConfigOption → Type 0) (a b : V) → Type 0
+Agreement table sendable allows compat a b =
     (first_a first_b : ℕ) (es : List Event) →
-    let sa : Setup = record { table = ta; first = first_a } in
-    let sb : Setup = record { table = tb; first = first_b } in
+    let sa : Setup = record { table = table a; first = first_a } in
+    let sb : Setup = record { table = table b; first = first_b } in
     IsNarrowRun sa sb es (start sa sb) →
     (run sa sb es (start sa sb)).a.auto.state ≡ Opened →
     (run sa sb es (start sa sb)).b.auto.state ≡ Opened →
-    Agree sends_a sends_b allows_a allows_b compat (run sa sb es (start sa sb))
+    Agree (sendable a) (sendable b) (allows a) (allows b) compat (run sa sb es (start sa sb))

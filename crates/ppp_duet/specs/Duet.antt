@@ -8,7 +8,7 @@ use Rattle.ppp_auto.specs.declared.auto_event.AutoEvent.{AutoEvent}
 use Rattle.ppp_auto.specs.declared.input.Input.{Input}
 use Rattle.ppp_auto.specs.declared.input.Input.TheVariants.{Down}
 use Rattle.ppp_auto.specs.Automaton.{Auto, begun, Taken, taken_as, kind, input_of, judging, does_row, Effect, Sends, Tells}
-use Rattle.ppp_auto.specs.Packet.{Packet, Request, Ack, Nak, Reject, Other}
+use Rattle.ppp_auto.specs.Packet.{Packet, Request, Other}
 use Rattle.ppp_auto.specs.EventTable.{cell_of, asks, acks}
 use Rattle.ppp_auto.specs.OptionTable.{Table}
 
@@ -72,10 +72,8 @@ pub record Event : Type 0 where
 -- a request is marked by its ordinal, an answer as what it answers
 abbrev pub mark_of : ℕ → ℕ → Packet → ℕ
 mark_of n mark (Request id options) = n
-mark_of n mark (Ack id options) = mark
-mark_of n mark (Nak id options) = mark
-mark_of n mark (Reject id options) = mark
 mark_of n mark (Other code id octets) = 0
+mark_of n mark answer = mark
 
 -- the packets that are sent, marked
 abbrev pub marked : ℕ → ℕ → List Effect → List Marked
@@ -111,10 +109,7 @@ is_off s = false
 -- the ordinal of the last request taken in, after a packet of that mark
 abbrev pub got_after : End → ℕ → Packet → ℕ
 got_after e mark (Request id options) = if is_off e.auto.state then e.got else mark
-got_after e mark (Ack id options) = e.got
-got_after e mark (Nak id options) = e.got
-got_after e mark (Reject id options) = e.got
-got_after e mark (Other code id octets) = e.got
+got_after e mark p = e.got
 
 abbrev pub does_if : Setup → End → Option Input → Taken → ℕ → ℕ → Did
 does_if s e None taken mark word = record { end = e; sent = [] }

@@ -4,3 +4,4 @@ pub mod NarrowRun
 pub mod Reached
 pub mod Reopening
 pub mod Span
+pub mod Terms

@@ -1,5 +1,5 @@
 -- Runs whose states are narrow.
-use Rattle.std.specs.Prelude.{List, [], ◌∷◌, ⊤}
+use Rattle.std.specs.Prelude.{◌≡◌, List, [], ◌∷◌, ⊤}
 use Rattle.ppp_duet.specs.Duet.{Duet, Event, Setup, Happening, Delivers, happens}
 use Rattle.ppp_duet.specs.Span.{Narrow}
 
@@ -10,8 +10,7 @@ IsNarrowRun sa sb (e ∷ es) d = Narrow d × IsNarrowRun sa sb es (happens sa sb
 
 -- each state before a delivery is: that is all that is used
 abbrev pub NarrowIfTaken : Happening → Duet → Type 0
-NarrowIfTaken Delivers d = Narrow d
-NarrowIfTaken what d = ⊤
+NarrowIfTaken what d = what ≡ Delivers → Narrow d
 
 abbrev pub IsNarrowWhereTaken : Setup → Setup → List Event → Duet → Type 0
 IsNarrowWhereTaken sa sb [] d = ⊤

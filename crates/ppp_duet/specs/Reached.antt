@@ -1,9 +1,9 @@
 -- States that a list of events leads to from the start, and what holds of them.
-use Rattle.std.specs.Prelude.{◌≡◌, ℕ, ◌+◌, ◌%◌, true, List, [], ◌∷◌, ◌++◌, take}
+use Rattle.std.specs.Prelude.{◌≡◌, ℕ, ◌+◌, ◌%◌, true, List, ◌++◌, take}
+use Rattle.std.specs.List.{AllByRecursion}
 use Rattle.ppp_packet.specs.ConfigOption.{ConfigOption}
 use Rattle.ppp_auto.specs.Automaton.{has_acked}
-use Rattle.ppp_auto.specs.OptionTable.{Table}
-use Rattle.ppp_auto.specs.Packet.{Packet, Request, Ack, Nak, Reject, Other}
+use Rattle.ppp_auto.specs.Packet.{Request}
 use Rattle.ppp_duet.specs.Duet.{Duet, End, Event, Marked, Setup, run, start}
 use Rattle.ppp_duet.specs.NarrowRun.{IsNarrowWhereTaken}
 use Rattle.ppp_duet.specs.Span.{least, requests, answers}
@@ -14,29 +14,14 @@ pub record Reached (sa sb : Setup) (d : Duet) : Type 0 where
   pub narrow : IsNarrowWhereTaken sa sb events (start sa sb)
   pub ends : run sa sb events (start sa sb) ≡ d
 
--- Each list that the table asks for has the property, where the last one has it.
-pub record KeptBy (t : Table) (keeps : List ConfigOption → Type 0) : Type 0 where
-  pub first_kept : (word : ℕ) → keeps (t.initial word)
-  pub after_nak_kept : (last nak : List ConfigOption) (word : ℕ) → keeps last → keeps (t.adapt_nak last nak word)
-  pub after_reject_kept : (last reject : List ConfigOption) (word : ℕ) → keeps last → keeps (t.adapt_reject last reject word)
-
--- it holds of each packet with its mark
-abbrev pub Every : (ℕ → Packet → Type 0) → List Marked → Type 0
-Every P [] = Unit {0}
-Every P (m ∷ ms) = P m.mark m.packet × Every P ms
-
--- each request of a queue has a list of that property
-abbrev pub IsKeptIn : (List ConfigOption → Type 0) → ℕ → Packet → Type 0
-IsKeptIn keeps mark (Request id options) = keeps options
-IsKeptIn keeps mark (Ack id options) = Unit {0}
-IsKeptIn keeps mark (Nak id options) = Unit {0}
-IsKeptIn keeps mark (Reject id options) = Unit {0}
-IsKeptIn keeps mark (Other code id octets) = Unit {0}
+-- a request has a list of that property
+abbrev pub IsKeptIn : (List ConfigOption → Type 0) → Marked → Type 0
+IsKeptIn keeps m = (id : ℕ) (options : List ConfigOption) → m.packet ≡ Request id options → keeps options
 
 -- The lists of an end `e`: its own one, those under way to the other end `f`, and the one that `f` acknowledged last.
 pub record Lists (keeps : List ConfigOption → Type 0) (e f : End) (out : List Marked) : Type 0 where
   pub own : keeps e.auto.own
-  pub under_way : Every (IsKeptIn keeps) out
+  pub under_way : AllByRecursion (IsKeptIn keeps) out
   pub acknowledged : has_acked f.auto.state ≡ true → keeps f.auto.peer
 
 pub record Carried (keeps_a keeps_b : List ConfigOption → Type 0) (d : Duet) : Type 0 where

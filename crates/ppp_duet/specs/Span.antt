@@ -1,30 +1,24 @@
 -- The span of an end: how far back the ordinals go whose requests or answers are under way.
+use Rattle.std.specs.List.{flat_map}
 use Rattle.std.specs.Prelude.{ℕ, ◌-◌, ◌≤◌, min, List, [], ◌∷◌, ◌++◌}
-use Rattle.ppp_auto.specs.Packet.{Packet, Request, Ack, Nak, Reject, Other}
+use Rattle.ppp_auto.specs.Packet.{Packet, Request, Other}
 use Rattle.ppp_duet.specs.Duet.{Marked, Duet}
 
 -- the marks of the requests in a queue, and of the answers
 abbrev pub request_mark : ℕ → Packet → List ℕ
 request_mark mark (Request id options) = mark ∷ []
-request_mark mark (Ack id options) = []
-request_mark mark (Nak id options) = []
-request_mark mark (Reject id options) = []
-request_mark mark (Other code id octets) = []
+request_mark mark p = []
 
 abbrev pub answer_mark : ℕ → Packet → List ℕ
 answer_mark mark (Request id options) = []
-answer_mark mark (Ack id options) = mark ∷ []
-answer_mark mark (Nak id options) = mark ∷ []
-answer_mark mark (Reject id options) = mark ∷ []
 answer_mark mark (Other code id octets) = []
+answer_mark mark answer = mark ∷ []
 
 abbrev pub requests : List Marked → List ℕ
-requests [] = []
-requests (m ∷ ms) = request_mark m.mark m.packet ++ requests ms
+requests ms = flat_map (λ m. request_mark m.mark m.packet) ms
 
 abbrev pub answers : List Marked → List ℕ
-answers [] = []
-answers (m ∷ ms) = answer_mark m.mark m.packet ++ answers ms
+answers ms = flat_map (λ m. answer_mark m.mark m.packet) ms
 
 -- the least of a number and some
 abbrev pub least : ℕ → List ℕ → ℕ

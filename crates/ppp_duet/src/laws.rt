@@ -10,7 +10,7 @@ use ppp_auto::OptionTable;
 /// states are all narrow: each end's granted options are those that the other acknowledged, both tables allow them, and
 /// the two lists fit (RFC 1661 section 4).
 pub fn agreement<T: OptionTable>(a: &T, b: &T)
-    ensures { Agreement (T.table a.now) (T.table b.now) (T.sendable a.now) (T.sendable b.now) (T.allows a.now) (T.allows b.now) T.compat }
+    ensures { Agreement T.table T.sendable T.allows T.compat a.now b.now }
 {}
 
 /// Between the moment an end leaves Opened and the moment it next enters it, the other end is outside Opened, for two
