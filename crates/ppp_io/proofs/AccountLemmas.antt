@@ -1,7 +1,7 @@
 -- What two calls in turn take off or put on, as a loop over a source or a sink needs it.
 use Rattle.std.proofs.Common.{List, ◌++◌, sym, ◌∙◌, ap, append_assoc}
 use Rattle.std.specs.Prelude.{Option, Some, None}
-use Rattle.ppp_io.specs.Told.{TakesOff, PutsOn}
+use Rattle.ppp_io.specs.Account.{TakesOff, PutsOn}
 
 -- what is taken off in two calls is taken off as one list
 pub TakesOff-append : {A : Type 0} (old between new : Option (List A)) (xs ys : List A) → TakesOff old between xs → TakesOff between new ys → TakesOff old new (xs ++ ys)

@@ -1,10 +1,10 @@
 -- What the answer of a write says.
 use Rattle.std.specs.Prelude.{◌≡◌, ℕ, ◌<◌, ◌≤◌, List, [], length, take, Option, ⊤}
 use Rattle.std.specs.Io.KnownBytes.{Appends, Keeps}
-use Rattle.ppp_io.specs.Causes.{one_more}
-use Rattle.ppp_io.specs.Told.{PutsOn}
-use Rattle.ppp_io.specs.declared.traits.Wrote.{Wrote}
-use Rattle.ppp_io.specs.declared.traits.Wrote.TheVariants.{Took, Failed}
+use Rattle.ppp_io.specs.Fault.{one_more}
+use Rattle.ppp_io.specs.Account.{PutsOn}
+use Rattle.ppp_io.specs.declared.wrote.Wrote.{Wrote}
+use Rattle.ppp_io.specs.declared.wrote.Wrote.TheVariants.{Took, Failed}
 
 -- a write takes at least one octet, and no more than the piece has
 abbrev pub WriteWithin : Wrote → List ℕ → Type 0

@@ -1,9 +1,9 @@
 -- What the answer of a read says.
 use Rattle.std.specs.Prelude.{◌≡◌, ℕ, ◌<◌, ◌≤◌, List, [], length, take, Option, ⊤}
-use Rattle.ppp_io.specs.Causes.{one_more}
-use Rattle.ppp_io.specs.Told.{TakesOff, IsDrained}
-use Rattle.ppp_io.specs.declared.traits.ReadGot.{ReadGot}
-use Rattle.ppp_io.specs.declared.traits.ReadGot.TheVariants.{Got, End, Failed}
+use Rattle.ppp_io.specs.Fault.{one_more}
+use Rattle.ppp_io.specs.Account.{TakesOff, IsDrained}
+use Rattle.ppp_io.specs.declared.read_got.ReadGot.{ReadGot}
+use Rattle.ppp_io.specs.declared.read_got.ReadGot.TheVariants.{Got, End, Failed}
 
 -- a read gives at least one octet, and no more than the buffer has room for
 abbrev pub ReadWithin : ReadGot → List ℕ → Type 0
