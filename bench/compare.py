@@ -1,11 +1,15 @@
 #!/usr/bin/env python3
 """Runs `pppd replay` and the plain Rust model in bench/model on random scripts, and compares output and status.
 
-Run by hand at the top of the repository, after the program was built: bench/compare.py [PROGRAM [CASES [FIRST SEED]]]"""
+Run by hand at the top of the repository, after the program was built:
+
+    bench/compare.py [PROGRAM [CASES [FIRST_SEED]]]
+"""
 import subprocess
 import sys
 import tempfile
 
+sys.dont_write_bytecode = True
 import ratio
 import scripts
 

@@ -11,6 +11,7 @@ import subprocess
 import sys
 import tempfile
 
+sys.dont_write_bytecode = True
 import scripts
 
 HERE = os.path.dirname(os.path.abspath(__file__))
@@ -18,7 +19,8 @@ HERE = os.path.dirname(os.path.abspath(__file__))
 
 def built_model(room):
     model = os.path.join(room, "model")
-    subprocess.run(["rustc", "-O", "--edition", "2024", "-o", model, os.path.join(HERE, "model", "main.rs")], check=True)
+    source = os.path.join(HERE, "model", "main.rs")
+    subprocess.run(["rustc", "-O", "--edition", "2024", "-o", model, source], check=True)
     return model
 
 

@@ -1,5 +1,5 @@
-//! `pppd replay` in plain Rust: one link, LCP, default settings. It is what `bench/ratio.py` measures the program against,
-//! built by `rustc -O`. Left out is what these two ends never send: codes 7 to 11 and unknown ones.
+//! `pppd replay` in plain Rust: one link, LCP, default settings. `bench/ratio.py` measures the program against it,
+//! built by `rustc -O`. Left out are packets that these two ends never send: of codes 7 to 11 and unknown ones.
 
 use Action::{Again, Answer, InitRestart, Refuse, Request, Terminate, TerminateAck, ZeroRestart};
 use State::{AckRcvd, AckSent, Closed, Closing, Initial, Opened, ReqSent, Starting, Stopped, Stopping};
@@ -136,7 +136,9 @@ fn judge_request(own: &[u8], naks: u8, theirs: &[u8], word: u64) -> (Input, u8, 
 /// The own list after a Configure-Nak.
 fn after_nak(own: &[u8], nak: &[u8], word: u64) -> Vec<u8> {
     let adapt = |option: &[u8]| match (option[0], find(nak, option[0])) {
-        (MRU, Some(&[_, _, high, low])) if (128..=8192).contains(&u16::from_be_bytes([high, low])) => vec![MRU, 4, high, low],
+        (MRU, Some(&[_, _, high, low])) if (128..=8192).contains(&u16::from_be_bytes([high, low])) => {
+            vec![MRU, 4, high, low]
+        }
         (MAGIC, Some(other)) if other.len() == 6 => match (magic_in(Some(other)), magic_in(Some(option))) {
             (magic, old) if magic == 0 || magic == old => magic_option(pick(word, old)),
             _ => other.to_vec(),
