@@ -67,9 +67,6 @@ down_low s = grind arith
 pub down_asks_nothing : (s : AutoState) → asks (cell_of Down s).actions ≡ false
 down_asks_nothing s = grind arith
 
-pub down_acks_nothing : (s : AutoState) → acks (cell_of Down s).actions ≡ false
-down_acks_nothing s = grind arith
-
 -- what low states and Opened are not
 pub low_not_heard : (s : AutoState) → is_low s ≡ true → is_heard s ≡ false
 low_not_heard s h = grind arith
@@ -82,6 +79,3 @@ low_not_opened s h = grind arith
 
 pub opened_heard : (s : AutoState) → is_opened s ≡ true → is_heard s ≡ true
 opened_heard s h = grind arith
-
-pub opened_acked : (s : AutoState) → is_opened s ≡ true → has_acked s ≡ true
-opened_acked s h = grind arith

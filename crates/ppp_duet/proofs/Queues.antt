@@ -30,8 +30,8 @@ options_in p = []
 pub ack_answers : (p : Packet) (id : ℕ) → ack_id p ≡ Some id → answer_id p ≡ Some id
 ack_answers p id is = grind arith
 
-pub answer_marked : (n mark id : ℕ) (p : Packet) → answer_id p ≡ Some id → mark_of n mark p ≡ mark
-answer_marked n mark id p is = grind arith
+pub answer_mark_of : (n mark id : ℕ) (p : Packet) → answer_id p ≡ Some id → mark_of n mark p ≡ mark
+answer_mark_of n mark id p is = grind arith
 
 pub all_weaker : {X : Type 0} {P Q : X → Type 0} → ((x : X) → P x → Q x) → (xs : List X) → AllByRecursion P xs → AllByRecursion Q xs
 all_weaker step [] h = tt
@@ -55,36 +55,22 @@ all_without P zero (x ∷ xs) h = h
 all_without P (suc zero) (x ∷ xs) h = h.1
 all_without P (suc (suc place)) (x ∷ xs) h = (h.0, all_without P (suc place) xs h.1)
 
--- the marks of one packet
-pub request_marks : (P : ℕ → Type 0) (mark : ℕ) (p : Packet) → ((id : ℕ) → request_id p ≡ Some id → P mark) → AllByRecursion P (request_mark mark p)
-request_marks P mark (Request id options) h = (h id refl, tt)
-request_marks P mark (Ack id options) h = tt
-request_marks P mark (Nak id options) h = tt
-request_marks P mark (Reject id options) h = tt
-request_marks P mark (Other code id octets) h = tt
+-- the mark, if the packet is of that kind
+abbrev pub mark_if : ℕ → Option ℕ → List ℕ
+mark_if mark None = []
+mark_if mark (Some id) = mark ∷ []
 
-pub answer_marks : (P : ℕ → Type 0) (mark : ℕ) (p : Packet) → ((id : ℕ) → answer_id p ≡ Some id → P mark) → AllByRecursion P (answer_mark mark p)
-answer_marks P mark (Request id options) h = tt
-answer_marks P mark (Ack id options) h = (h id refl, tt)
-answer_marks P mark (Nak id options) h = (h id refl, tt)
-answer_marks P mark (Reject id options) h = (h id refl, tt)
-answer_marks P mark (Other code id octets) h = tt
+pub request_marked : (mark : ℕ) (p : Packet) → request_mark mark p ≡ mark_if mark (request_id p)
+request_marked mark p = grind arith
 
-pub mark_asked : (P : ℕ → Type 0) (mark : ℕ) (p : Packet) (id : ℕ) → request_id p ≡ Some id → AllByRecursion P (request_mark mark p) → P mark
-mark_asked P mark (Request i options) id is h = h.0
-mark_asked P mark (Ack i options) id is h = absurd (cc)
-mark_asked P mark (Nak i options) id is h = absurd (cc)
-mark_asked P mark (Reject i options) id is h = absurd (cc)
-mark_asked P mark (Other code i octets) id is h = absurd (cc)
+pub answer_marked : (mark : ℕ) (p : Packet) → answer_mark mark p ≡ mark_if mark (answer_id p)
+answer_marked mark p = grind arith
 
-pub mark_answered : (P : ℕ → Type 0) (mark : ℕ) (p : Packet) (id : ℕ) → answer_id p ≡ Some id → AllByRecursion P (answer_mark mark p) → P mark
-mark_answered P mark (Request i options) id is h = absurd (cc)
-mark_answered P mark (Ack i options) id is h = h.0
-mark_answered P mark (Nak i options) id is h = h.0
-mark_answered P mark (Reject i options) id is h = h.0
-mark_answered P mark (Other code i octets) id is h = absurd (cc)
+pub mark_all : (P : ℕ → Type 0) (mark : ℕ) (o : Option ℕ) → ((id : ℕ) → o ≡ Some id → P mark) → AllByRecursion P (mark_if mark o)
+mark_all P mark None h = tt
+mark_all P mark (Some id) h = (h id refl, tt)
 
--- and of a queue's packets
+-- the marks of a queue's packets
 pub marks_all : (f : Marked → List ℕ) (P : ℕ → Type 0) {Q : Marked → Type 0} → ((m : Marked) → Q m → AllByRecursion P (f m)) →
     (ms : List Marked) → AllByRecursion Q ms → AllByRecursion P (flat_map f ms)
 marks_all f P each [] h = tt

@@ -14,14 +14,11 @@ use Rattle.ppp_duet.proofs.NarrowRunLemmas.{where_taken, narrow_front, narrow_ba
 use Rattle.ppp_duet.proofs.TermsLemmas.{Used}
 use Rattle.ppp_duet.proofs.Turns.{Turn}
 
-opened_is : (s : AutoState) → s ≡ Opened → is_opened s ≡ true
-opened_is s e = rw e
-
 is_opened_at : (s : AutoState) → is_opened s ≡ true → s ≡ Opened
 is_opened_at s e = grind arith
 
 not_opened : (s : AutoState) → is_opened s ≡ false → ¬ (s ≡ Opened)
-not_opened s e h = let yes : is_opened s ≡ true = opened_is s h in cc
+not_opened s e h = grind arith
 
 module _ (compat : List ConfigOption → List ConfigOption → Type 0) (ta tb : Terms) (used_a : Used compat ta) (used_b : Used compat tb) where
   abbrev then : Duet → Event → Duet
@@ -36,8 +33,7 @@ module _ (compat : List ConfigOption → List ConfigOption → Type 0) (ta tb : 
   pub waits_left : (side : Side) (d : Duet) (e : Event) → NarrowIfTaken e.what d → Holds ta tb d → IsOpenedAt side d → ¬ (IsOpenedAt side (then d e)) →
       Away (end_at side (then d e)) (end_beyond side (then d e))
   waits_left side d e narrow h opened out =
-      ⊎_elim (λ k. absurd (out (is_opened_at (end_at side (then d e)).auto.state k))) (λ k. k)
-      ((turn side d e narrow h).left (opened_is (end_at side d).auto.state opened))
+      ⊎_elim (λ k. absurd (out (is_opened_at (end_at side (then d e)).auto.state k))) (λ k. k) ((turn side d e narrow h).left (rw opened))
 
   -- one event later
   pub waits_on : (out : Type 0) (side : Side) (d : Duet) (e : Event) → NarrowIfTaken e.what d → Holds ta tb d →
@@ -51,8 +47,7 @@ module _ (compat : List ConfigOption → List ConfigOption → Type 0) (ta tb : 
   -- an end enters Opened
   pub waits_entered : (out : Type 0) (side : Side) (d : Duet) (e : Event) → NarrowIfTaken e.what d → Holds ta tb d → IsOpenedAt side (then d e) → Waits out side d → out
   waits_entered out side d e narrow h opened (inl k) = k
-  waits_entered out side d e narrow h opened (inr k) =
-      absurd ((turn side d e narrow h).enters k (opened_is (end_at side (then d e)).auto.state opened))
+  waits_entered out side d e narrow h opened (inr k) = absurd ((turn side d e narrow h).enters k (rw opened))
 
   abbrev Out : Side → List Event → Duet → Type 0
   Out side es d = IsOnceOut ta.setup tb.setup side es d

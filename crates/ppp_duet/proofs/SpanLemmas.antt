@@ -8,7 +8,7 @@ use Rattle.ppp_auto.specs.Packet.{Packet, Other}
 use Rattle.ppp_duet.specs.Duet.{End, Marked, Duet, Setup, Side, A, B, Happening, Commands, SetsCap, RejectsProtocol, Delivers, Loses, Reboots, Event, does, does_if, start, takes, got_after, without, turned, delivers, at_first, at_side, happens}
 use Rattle.ppp_duet.specs.Span.{request_mark, answer_mark, requests, answers, least, span_of, widest, Narrow}
 use Rattle.ppp_duet.proofs.Packets.{RepliesIf, all_sent, sent_requests, sent_answers}
-use Rattle.ppp_duet.proofs.Queues.{answer_id, all_weaker, all_append, all_front, all_back, marks_append, marks_without, mark_asked, mark_answered, Rising, rising_within}
+use Rattle.ppp_duet.proofs.Queues.{answer_id, all_weaker, all_append, all_front, all_back, marks_append, marks_without, request_marked, answer_marked, Rising, rising_within}
 use Rattle.ppp_duet.proofs.TakenLemmas.{replies}
 
 -- an ordinal is near the newest one
@@ -41,7 +41,7 @@ pub answer_near : (n : ℕ) (out : List Marked) (mark : ℕ) (p : Packet) (id : 
     span_of n out (record { mark = mark; packet = p } ∷ rest) ≤ widest → n ≤ mark + 255
 answer_near n out mark p id rest is h =
     let near = near_span n out (record { mark = mark; packet = p } ∷ rest) h in
-    mark_answered (IsNear n) mark p id is (all_front (IsNear n) (answer_mark mark p) (answers rest) near.answered)
+    (rw (answer_marked mark p, is) at near.answered).0
 
 -- What is sent: requests with the newest ordinal, and answers to requests that are near the other end's newest.
 record SentNear (n other : ℕ) (sent : List Marked) : Type 0 where
@@ -72,7 +72,7 @@ unfolding takes
 takes_near s e m word other h =
     let taken = kind s.table e.auto m.packet word in
     if_near s (record e { got = got_after e m.mark m.packet }) taken.input taken m.mark word other
-    (replies s.table e.auto m.packet word (λ _. IsNear other m.mark) (λ id is. mark_asked (IsNear other) m.mark m.packet id is h))
+    (replies s.table e.auto m.packet word (λ _. IsNear other m.mark) (λ id is. (rw (request_marked m.mark m.packet, is) at h).0))
 
 -- the first end became `x` and sent packets, and `rest` is left of the queue to it
 narrow_after : (a b x : End) (to_b rest sent : List Marked) → x.n ≤ a.n → Near a.n to_b rest → Near b.n rest to_b → SentNear x.n b.n sent →

@@ -8,7 +8,8 @@ use Rattle.ppp_auto.specs.declared.input.Input.TheVariants.{ReceiveConfigureRequ
 use Rattle.ppp_auto.specs.Automaton.{Auto, last_id, is_idle, input_of, nak_taken, judging, kind}
 use Rattle.ppp_auto.specs.Lawful.{Passes}
 use Rattle.ppp_auto.specs.OptionTable.{Table}
-use Rattle.ppp_auto.specs.Packet.{Packet, Request, Ack, Nak, Reject, Other}
+use Rattle.ppp_auto.specs.Packet.{Packet, Other}
+use Rattle.ppp_auto.specs.Reply.{reply_to}
 use Rattle.ppp_duet.specs.Duet.{End, got_after, is_off}
 use Rattle.ppp_duet.proofs.EventTableLemmas.{is_request}
 use Rattle.ppp_duet.proofs.Packets.{RepliesIf}
@@ -67,13 +68,12 @@ good_own t a p word h = grind (arith, nat_tests)
 pub theirs_are : (t : Table) (a : Auto) (p : Packet) (word : ℕ) → (kind t a p word).theirs ≡ options_in p
 theirs_are t a p word = grind (arith, nat_tests)
 
-pub good_passes : (t : Table) (a : Auto) (p : Packet) (word id : ℕ) → request_id p ≡ Some id → (kind t a p word).input ≡ Some ReceiveConfigureRequestGood →
-    Passes t (judging t a word) (options_in p) word
-good_passes t a (Request i theirs) word id is h = accepted_passes t (judging t a word) a.naks word i theirs (cc)
-good_passes t a (Ack i options) word id is h = absurd (cc)
-good_passes t a (Nak i options) word id is h = absurd (cc)
-good_passes t a (Reject i options) word id is h = absurd (cc)
-good_passes t a (Other code i octets) word id is h = absurd (cc)
+good_reply : (t : Table) (a : Auto) (p : Packet) (word : ℕ) → (kind t a p word).input ≡ Some ReceiveConfigureRequestGood →
+    (reply_to t (judging t a word) a.naks word (kind t a p word).id (options_in p)).input ≡ ReceiveConfigureRequestGood
+good_reply t a p word h = grind (arith, nat_tests)
+
+pub good_passes : (t : Table) (a : Auto) (p : Packet) (word : ℕ) → (kind t a p word).input ≡ Some ReceiveConfigureRequestGood → Passes t (judging t a word) (options_in p) word
+good_passes t a p word h = accepted_passes t (judging t a word) a.naks word (kind t a p word).id (options_in p) (good_reply t a p word h)
 
 -- the list that is asked for next
 pub nak_adapted : (a : Auto) (b : Bool) (id : ℕ) (adapted : List ConfigOption) → (nak_taken a b id adapted).adapted ≡ (if b then adapted else a.own)
