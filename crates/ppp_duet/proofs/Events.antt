@@ -6,6 +6,8 @@ use Rattle.ppp_auto.specs.declared.auto_event.AutoEvent.{AutoEvent}
 use Rattle.ppp_auto.specs.declared.input.Input.TheVariants.{Down}
 use Rattle.ppp_auto.specs.Automaton.{taken_as, input_of, is_heard, has_acked, does_row}
 use Rattle.ppp_auto.specs.Packet.{Packet, Request, Ack, Nak, Reject, Other}
+use Rattle.ppp_packet.specs.declared.code.Code.TheVariants.{ProtocolReject}
+use Rattle.ppp_packet.specs.Code.{code_number}
 use Rattle.ppp_duet.specs.Duet.{End, Marked, Duet, Side, A, B, Happening, Commands, SetsCap, RejectsProtocol, Delivers, Loses, Reboots, Event, does, takes, got_after, is_off, without, turned, end_begun, start, delivers, commands, reboots, at_first, at_side, happens, run}
 use Rattle.ppp_duet.specs.NarrowRun.{NarrowIfTaken, IsNarrowWhereTaken}
 use Rattle.ppp_duet.specs.Span.{request_mark, answer_mark, requests, answers, span_of, widest}
@@ -14,7 +16,7 @@ use Rattle.ppp_duet.proofs.EventTableLemmas.{down_low, down_asks_nothing, low_no
 use Rattle.ppp_duet.proofs.Invariant.{Asked, Acked, Half, Holds}
 use Rattle.ppp_duet.proofs.Moves.{SentBy, Move, own_half, other_half, both_judged}
 use Rattle.ppp_duet.proofs.PacketMoves.{command_moves, packet_moves, takes_got}
-use Rattle.ppp_duet.proofs.Queues.{all_without, Rising, rising_within, rising_from, rising_back, rising_without}
+use Rattle.ppp_duet.proofs.Queues.{all_without, Rising, rising_within, rising_from, rising_back, rising_without, by_request, by_answer}
 use Rattle.ppp_duet.proofs.RowMoves.{rest_moves}
 use Rattle.ppp_duet.proofs.TermsLemmas.{Used}
 use Rattle.ppp_duet.proofs.Turns.{Turn, turn_mine, turn_other, turn_low}
@@ -28,7 +30,8 @@ later_if : (got mark high : ℕ) (rest : List ℕ) (b : Bool) → got ≤ mark �
 later_if got mark high rest true h k = record { later = omega arith; rising = rising_from got mark high rest h k }
 later_if got mark high rest false h k = record { later = h; rising = k }
 
-later_after : (x : End) (mark : ℕ) (p : Packet) (high : ℕ) (rest : List ℕ) → Rising x.got high (request_mark mark p ++ rest) → Later x.got (got_after x mark p) high rest
+later_after : (x : End) (mark : ℕ) (p : Packet) (high : ℕ) (rest : List ℕ) → Rising x.got high (request_mark mark p ++ rest) →
+    Later x.got (got_after x mark p) high rest
 later_after x mark (Request id options) high rest h = later_if x.got mark high rest (is_off x.auto.state) h.0 h.1
 later_after x mark (Ack id options) high rest h = record { later = omega arith; rising = h }
 later_after x mark (Nak id options) high rest h = record { later = omega arith; rising = h }
@@ -68,7 +71,8 @@ module _ (ta tb : Terms) where
     rising : Rising x.got d.b.n (requests rest)
     later : d.a.got ≤ x.got
 
-  goes : (d : Duet) (x : End) (sent rest to_b : List Marked) → Holds ta tb d → Acts d x sent rest to_b → Goes d (record { a = x; b = d.b; to_a = rest; to_b = to_b })
+  goes : (d : Duet) (x : End) (sent rest to_b : List Marked) → Holds ta tb d → Acts d x sent rest to_b →
+      Goes d (record { a = x; b = d.b; to_a = rest; to_b = to_b })
   goes d x sent rest to_b h k =
       let below = rising_within d.b.got d.a.n (requests d.to_b) h.of_a.rising in
       record {
@@ -82,7 +86,8 @@ module _ (ta tb : Terms) where
       }
 
   -- no packet is taken in
-  acts : (d : Duet) (x : End) (sent to_b : List Marked) → Holds ta tb d → x.got ≡ d.a.got → Move ta tb d.a d.b x sent → to_b ≡ d.to_b ++ sent → Acts d x sent d.to_a to_b
+  acts : (d : Duet) (x : End) (sent to_b : List Marked) → Holds ta tb d → x.got ≡ d.a.got → Move ta tb d.a d.b x sent → to_b ≡ d.to_b ++ sent →
+      Acts d x sent d.to_a to_b
   acts d x sent to_b h e m q =
       record { move = m; queued = q; acked = h.of_a.acked; answered = h.of_a.answered; asked = h.of_b.asked; rising = rw e h.of_b.rising; later = omega arith }
 
@@ -96,9 +101,10 @@ module _ (ta tb : Terms) where
       let x : End = record d.a { auto = record d.a.auto { cap = cap } } in
       goes d x [] d.to_a d.to_b h (acts d x [] d.to_b h refl (rests d cap [] h tt) (sym (append-nil d.to_b)))
 
-  rejects_goes : (d : Duet) (id : ℕ) (octets : List ℕ) → Holds ta tb d → Goes d (record d { to_b = d.to_b ++ record { mark = 0; packet = Other 8 id octets } ∷ [] })
+  rejects_goes : (d : Duet) (id : ℕ) (octets : List ℕ) → Holds ta tb d →
+      Goes d (record d { to_b = d.to_b ++ record { mark = 0; packet = Other (code_number ProtocolReject) id octets } ∷ [] })
   rejects_goes d id octets h =
-      let sent : List Marked = record { mark = 0; packet = Other 8 id octets } ∷ [] in
+      let sent : List Marked = record { mark = 0; packet = Other (code_number ProtocolReject) id octets } ∷ [] in
       goes d d.a sent d.to_a (d.to_b ++ sent) h (acts d d.a sent (d.to_b ++ sent) h refl
       (rests d d.a.auto.cap sent h (record { asks = λ _ is. absurd (cc); replies = λ _ is. absurd (cc) }, tt)) refl)
 
@@ -108,9 +114,9 @@ module _ (ta tb : Terms) where
     move = rests d d.a.auto.cap [] h tt;
     queued = sym (append-nil d.to_b);
     acked = all_without (Acked ta) place d.to_a h.of_a.acked;
-    answered = rising_without (λ m. answer_mark m.mark m.packet) place d.to_a 0 d.b.got h.of_a.answered;
+    answered = rising_without by_answer place d.to_a 0 d.b.got h.of_a.answered;
     asked = all_without (Asked tb d.b) place d.to_a h.of_b.asked;
-    rising = rising_without (λ m. request_mark m.mark m.packet) place d.to_a d.a.got d.b.n h.of_b.rising;
+    rising = rising_without by_request place d.to_a d.a.got d.b.n h.of_b.rising;
     later = omega arith;
   })
 
@@ -159,7 +165,8 @@ module _ (compat : List ConfigOption → List ConfigOption → Type 0) (ta tb : 
       }
 
   -- what happens at the first end
-  first_goes : (d : Duet) (what : Happening) (word : ℕ) → Used compat ta → NarrowIfTaken what d → Holds ta tb d → Goes ta tb d (at_first ta.setup tb.setup d what word)
+  first_goes : (d : Duet) (what : Happening) (word : ℕ) → Used compat ta → NarrowIfTaken what d → Holds ta tb d →
+      Goes ta tb d (at_first ta.setup tb.setup d what word)
   unfolding at_first
   first_goes d (Commands e) word used narrow h = commands_goes d e word used h
   first_goes d (SetsCap cap) word used narrow h = cap_goes ta tb d cap h
@@ -177,7 +184,8 @@ turned_holds ta tb d h = record {
 }
 
 module _ (compat : List ConfigOption → List ConfigOption → Type 0) (ta tb : Terms) (used_a : Used compat ta) (used_b : Used compat tb) where
-  side_goes : (side : Side) (d : Duet) (what : Happening) (word : ℕ) → NarrowIfTaken what d → Holds ta tb d → Goes ta tb d (at_side side ta.setup tb.setup d what word)
+  side_goes : (side : Side) (d : Duet) (what : Happening) (word : ℕ) → NarrowIfTaken what d → Holds ta tb d →
+      Goes ta tb d (at_side side ta.setup tb.setup d what word)
   side_goes A d what word narrow h = first_goes compat ta tb d what word used_a narrow h
   side_goes B d what word narrow h =
       let other = turned d in

@@ -4,12 +4,12 @@ use Rattle.std.specs.List.{AllByRecursion}
 use Rattle.ppp_auto.specs.Automaton.{is_heard, has_acked, is_opened}
 use Rattle.ppp_duet.specs.Duet.{End, Marked}
 use Rattle.ppp_duet.specs.Reopening.{is_low}
-use Rattle.ppp_duet.specs.Span.{request_mark, answer_mark, requests, answers}
+use Rattle.ppp_duet.specs.Span.{requests, answers}
 use Rattle.ppp_duet.specs.Terms.{Terms}
 use Rattle.ppp_duet.proofs.Identifiers.{id_of, last_is}
 use Rattle.ppp_duet.proofs.Invariant.{Asked, Acked, Half, Judged}
 use Rattle.ppp_duet.proofs.Packets.{Sent, sent_requests, sent_answers}
-use Rattle.ppp_duet.proofs.Queues.{ack_answers, all_weaker, all_append, Rising, rising_within, rising_newest}
+use Rattle.ppp_duet.proofs.Queues.{ack_answers, all_weaker, all_append, Rising, rising_within, rising_newest, by_request, by_answer}
 use Rattle.ppp_packet.specs.ConfigOption.{ConfigOption}
 
 -- the peer's list stood acknowledged, and stands
@@ -63,7 +63,8 @@ module _ (tx ty : Terms) where
   acked_now x' m s id is = (s.replies id (ack_answers m.packet id is)).0
 
   -- of the requests of the end that moved
-  pub own_half : (x y x' : End) (out before rest sent : List Marked) → Half tx ty x y out before → AllByRecursion (Acked tx) rest → Rising 0 y.got (answers rest) →
+  pub own_half : (x y x' : End) (out before rest sent : List Marked) → Half tx ty x y out before → AllByRecursion (Acked tx) rest →
+      Rising 0 y.got (answers rest) →
       Move tx ty x y x' sent → Half tx ty x' y (out ++ sent) rest
   own_half x y x' out before rest sent h acked answered move =
       let below : y.got ≤ x.n = rising_within y.got x.n (requests out) h.rising in
@@ -72,7 +73,7 @@ module _ (tx ty : Terms) where
         asked = all_append (Asked tx x') out sent (all_weaker (asked_before x x' move.more move.same) out h.asked)
             (all_weaker (asked_now x y x' sent move) sent move.sends);
         acked = acked;
-        rising = rising_newest (λ m. request_mark m.mark m.packet) y.got x.n x'.n out sent move.more h.rising (sent_requests x'.n x'.auto (AnswersTo ty x'.got) sent move.sends);
+        rising = rising_newest by_request y.got x.n x'.n out sent move.more h.rising (sent_requests x'.n x'.auto (AnswersTo ty x'.got) sent move.sends);
         answered = answered;
         heard = move.heard;
         keeps_own = move.keeps_own;
@@ -97,7 +98,7 @@ module _ (tx ty : Terms) where
         asked = asked;
         acked = all_append (Acked ty) out sent h.acked (all_weaker (acked_now x') sent move.sends);
         rising = rising;
-        answered = rising_newest (λ m. answer_mark m.mark m.packet) 0 x.got x'.got out sent later h.answered
+        answered = rising_newest by_answer 0 x.got x'.got out sent later h.answered
             (sent_answers x'.n x'.auto (AnswersTo ty x'.got) (λ mark. mark ≡ x'.got) (λ mark id k. k.1) sent move.sends);
         heard = λ heard. let was : x.got ≡ y.n = h.heard heard in omega arith;
         keeps_own = h.keeps_own;

@@ -14,7 +14,7 @@ use Rattle.ppp_duet.proofs.Moves.{AnswersTo, Move}
 use Rattle.ppp_duet.proofs.Queues.{answer_marked, ack_answers, options_in, ack_id, rising_within}
 use Rattle.ppp_duet.proofs.RowMoves.{Ready, keeps_if, row_moves, rest_moves}
 use Rattle.ppp_duet.proofs.SpanLemmas.{answer_near}
-use Rattle.ppp_duet.proofs.TakenLemmas.{command_asks_nothing, command_acks_nothing, good_is_request, replies, ack_named, got_else, got_on, good_asks, good_own, theirs_are, good_passes, other_adapted, nak_adapted}
+use Rattle.ppp_duet.proofs.TakenLemmas.{command_asks_nothing, command_acks_nothing, good_is_request, replies, ack_named, got_else, got_on, good_asks, good_own, theirs_are, good_passes, other_adapted, nak_kept}
 use Rattle.ppp_duet.proofs.TermsLemmas.{Used}
 
 module _ (compat : List ConfigOption → List ConfigOption → Type 0) (tx ty : Terms) where
@@ -35,8 +35,10 @@ module _ (compat : List ConfigOption → List ConfigOption → Type 0) (tx ty : 
   adapted_kept : (x : End) (p : Packet) (word : ℕ) → Used compat tx → tx.keeps x.auto.own → tx.keeps (kind tx.setup.table x.auto p word).adapted
   adapted_kept x (Request id theirs) word used own = own
   adapted_kept x (Ack id options) word used own = own
-  adapted_kept x (Nak id options) word used own = rw (nak_adapted x.auto (is_nak_of x.auto id options) id (tx.setup.table.adapt_nak x.auto.own options word)) (keeps_if tx.keeps (is_nak_of x.auto id options) _ x.auto.own (used.kept.after_nak_kept x.auto.own options word own) own)
-  adapted_kept x (Reject id options) word used own = rw (nak_adapted x.auto (is_reject_of x.auto id options) id (tx.setup.table.adapt_reject x.auto.own options word)) (keeps_if tx.keeps (is_reject_of x.auto id options) _ x.auto.own (used.kept.after_reject_kept x.auto.own options word own) own)
+  adapted_kept x (Nak id options) word used own =
+      nak_kept tx.keeps x.auto (is_nak_of x.auto id options) id (tx.setup.table.adapt_nak x.auto.own options word) (used.kept.after_nak_kept x.auto.own options word own) own
+  adapted_kept x (Reject id options) word used own =
+      nak_kept tx.keeps x.auto (is_reject_of x.auto id options) id (tx.setup.table.adapt_reject x.auto.own options word) (used.kept.after_reject_kept x.auto.own options word own) own
   adapted_kept x (Other code id octets) word used own = rw (other_adapted tx.setup.table x.auto code id octets word) own
 
   -- an Ack that counts is one of the newest request

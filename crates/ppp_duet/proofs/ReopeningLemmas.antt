@@ -6,7 +6,7 @@ use Rattle.ppp_auto.specs.declared.auto_state.AutoState.TheVariants.{Opened}
 use Rattle.ppp_auto.specs.Automaton.{is_opened}
 use Rattle.ppp_duet.specs.Duet.{Duet, Side, A, B, Event, happens, run, start}
 use Rattle.ppp_duet.specs.NarrowRun.{NarrowIfTaken, IsNarrowRun, IsNarrowWhereTaken}
-use Rattle.ppp_duet.specs.Reopening.{end_at, end_beyond, IsOpenedAt, StaysOut, IsOnceOut, Away, Waits}
+use Rattle.ppp_duet.specs.Reopening.{end_at, end_beyond, IsOpenedAt, IsOpenedBeyond, StaysOut, IsOnceOut, Away, Waits}
 use Rattle.ppp_duet.specs.Terms.{Terms}
 use Rattle.ppp_duet.proofs.Events.{event_goes, run_holds, start_holds}
 use Rattle.ppp_duet.proofs.Invariant.{Holds}
@@ -37,7 +37,7 @@ module _ (compat : List ConfigOption → List ConfigOption → Type 0) (ta tb : 
 
   -- one event later
   pub waits_on : (out : Type 0) (side : Side) (d : Duet) (e : Event) → NarrowIfTaken e.what d → Holds ta tb d →
-      (¬ ((end_beyond side d).auto.state ≡ Opened) → out) → (¬ ((end_beyond side (then d e)).auto.state ≡ Opened) → out) → Waits out side d → Waits out side (then d e)
+      (¬ (IsOpenedBeyond side d) → out) → (¬ (IsOpenedBeyond side (then d e)) → out) → Waits out side d → Waits out side (then d e)
   waits_on out side d e narrow h before after (inl k) = inl k
   waits_on out side d e narrow h before after (inr k) =
       ⊎_elim (λ o. inl (before (not_opened (end_beyond side d).auto.state o)))
@@ -45,14 +45,15 @@ module _ (compat : List ConfigOption → List ConfigOption → Type 0) (ta tb : 
       ((turn side d e narrow h).onward k)
 
   -- an end enters Opened
-  pub waits_entered : (out : Type 0) (side : Side) (d : Duet) (e : Event) → NarrowIfTaken e.what d → Holds ta tb d → IsOpenedAt side (then d e) → Waits out side d → out
+  pub waits_entered : (out : Type 0) (side : Side) (d : Duet) (e : Event) → NarrowIfTaken e.what d → Holds ta tb d → IsOpenedAt side (then d e) →
+      Waits out side d → out
   waits_entered out side d e narrow h opened (inl k) = k
   waits_entered out side d e narrow h opened (inr k) = absurd ((turn side d e narrow h).enters k (rw opened))
 
   abbrev Out : Side → List Event → Duet → Type 0
   Out side es d = IsOnceOut ta.setup tb.setup side es d
 
-  first_out : (side : Side) (es : List Event) (d : Duet) → ¬ ((end_beyond side d).auto.state ≡ Opened) → Out side es d
+  first_out : (side : Side) (es : List Event) (d : Duet) → ¬ (IsOpenedBeyond side d) → Out side es d
   first_out side [] d h = h
   first_out side (e ∷ es) d h = inl h
 

@@ -57,7 +57,8 @@ module _ (tx ty : Terms) (x y : End) (got : ℕ) (input : Input) (taken : Taken)
       let from = acked_from input x.auto.state acked h in
       record { before = from.0; peer = grind arith; got = ready.got_else from.1; against = grind arith }
 
-  pub row_moves : x.auto.next_id % 256 ≡ (tx.setup.first + x.n) % 256 → (is_heard x.auto.state ≡ true → y.got ≡ x.n) → tx.keeps x.auto.own → tx.keeps (tx.setup.table.initial word) →
+  pub row_moves : x.auto.next_id % 256 ≡ (tx.setup.first + x.n) % 256 → (is_heard x.auto.state ≡ true → y.got ≡ x.n) → tx.keeps x.auto.own →
+      tx.keeps (tx.setup.table.initial word) →
       Move tx ty x y (does tx.setup (record x { got = got }) input taken mark word).end (does tx.setup (record x { got = got }) input taken mark word).sent
   unfolding does does_row
   row_moves ids heard own first =
