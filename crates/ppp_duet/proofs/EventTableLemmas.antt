@@ -30,10 +30,12 @@ sends_answer actions = list_any answers_in actions
 pub heard_asks_nothing : (i : Input) (s : AutoState) → is_heard (cell_of i s).next ≡ true → asks (cell_of i s).actions ≡ false
 heard_asks_nothing i s h = grind arith
 
-pub heard_from : (i : Input) (s : AutoState) → is_heard (cell_of i s).next ≡ true → (is_heard s ≡ true) ⊎ ((Some i ≡ Some ReceiveConfigureAck) × (is_idle s ≡ false))
+pub heard_from : (i : Input) (s : AutoState) → is_heard (cell_of i s).next ≡ true →
+    (is_heard s ≡ true) ⊎ ((Some i ≡ Some ReceiveConfigureAck) × (is_idle s ≡ false))
 heard_from i s h = grind arith
 
-pub acked_from : (i : Input) (s : AutoState) → has_acked (cell_of i s).next ≡ true → acks (cell_of i s).actions ≡ false → (has_acked s ≡ true) × (is_request (Some i) ≡ false)
+pub acked_from : (i : Input) (s : AutoState) → has_acked (cell_of i s).next ≡ true → acks (cell_of i s).actions ≡ false →
+    (has_acked s ≡ true) × (is_request (Some i) ≡ false)
 acked_from i s h k = grind arith
 
 pub acks_good : (i : Input) (s : AutoState) → acks (cell_of i s).actions ≡ true → (Some i ≡ Some ReceiveConfigureRequestGood) × (is_off s ≡ false)
@@ -54,7 +56,8 @@ pub low_stays : (i : Input) (s : AutoState) → is_low s ≡ true → (is_low (c
 low_stays i s h = grind arith
 
 -- Opened is left to a low state or by a new request
-pub opened_left : (i : Input) (s : AutoState) → is_opened s ≡ true → (is_opened (cell_of i s).next ≡ true) ⊎ (is_low (cell_of i s).next ≡ true) ⊎ (asks (cell_of i s).actions ≡ true)
+pub opened_left : (i : Input) (s : AutoState) → is_opened s ≡ true →
+    (is_opened (cell_of i s).next ≡ true) ⊎ (is_low (cell_of i s).next ≡ true) ⊎ (asks (cell_of i s).actions ≡ true)
 opened_left i s h = grind arith
 
 -- a request that is taken in ends Opened
@@ -66,9 +69,6 @@ down_low s = grind arith
 
 pub down_asks_nothing : (s : AutoState) → asks (cell_of Down s).actions ≡ false
 down_asks_nothing s = grind arith
-
-pub down_acks_nothing : (s : AutoState) → acks (cell_of Down s).actions ≡ false
-down_acks_nothing s = grind arith
 
 -- what low states and Opened are not
 pub low_not_heard : (s : AutoState) → is_low s ≡ true → is_heard s ≡ false
@@ -82,6 +82,3 @@ low_not_opened s h = grind arith
 
 pub opened_heard : (s : AutoState) → is_opened s ≡ true → is_heard s ≡ true
 opened_heard s h = grind arith
-
-pub opened_acked : (s : AutoState) → is_opened s ≡ true → has_acked s ≡ true
-opened_acked s h = grind arith

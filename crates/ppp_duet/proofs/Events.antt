@@ -4,19 +4,20 @@ use Rattle.std.specs.List.{AllByRecursion}
 use Rattle.ppp_packet.specs.ConfigOption.{ConfigOption}
 use Rattle.ppp_auto.specs.declared.auto_event.AutoEvent.{AutoEvent}
 use Rattle.ppp_auto.specs.declared.input.Input.TheVariants.{Down}
-use Rattle.ppp_auto.specs.Automaton.{taken_as, input_of, is_heard, has_acked, begins_anew, does_row}
-use Rattle.ppp_auto.specs.EventTable.{cell_of, asks}
+use Rattle.ppp_auto.specs.Automaton.{taken_as, input_of, is_heard, has_acked, does_row}
 use Rattle.ppp_auto.specs.Packet.{Packet, Request, Ack, Nak, Reject, Other}
+use Rattle.ppp_packet.specs.declared.code.Code.TheVariants.{ProtocolReject}
+use Rattle.ppp_packet.specs.Code.{code_number}
 use Rattle.ppp_duet.specs.Duet.{End, Marked, Duet, Side, A, B, Happening, Commands, SetsCap, RejectsProtocol, Delivers, Loses, Reboots, Event, does, takes, got_after, is_off, without, turned, end_begun, start, delivers, commands, reboots, at_first, at_side, happens, run}
 use Rattle.ppp_duet.specs.NarrowRun.{NarrowIfTaken, IsNarrowWhereTaken}
 use Rattle.ppp_duet.specs.Span.{request_mark, answer_mark, requests, answers, span_of, widest}
 use Rattle.ppp_duet.specs.Terms.{Terms}
 use Rattle.ppp_duet.proofs.EventTableLemmas.{down_low, down_asks_nothing, low_not_heard, low_not_acked}
 use Rattle.ppp_duet.proofs.Invariant.{Asked, Acked, Half, Holds}
-use Rattle.ppp_duet.proofs.Moves.{Move, own_half, other_half, both_judged}
+use Rattle.ppp_duet.proofs.Moves.{SentBy, Move, own_half, other_half, both_judged}
 use Rattle.ppp_duet.proofs.PacketMoves.{command_moves, packet_moves, takes_got}
-use Rattle.ppp_duet.proofs.Queues.{all_without, Rising, rising_within, rising_from, rising_back, rising_without}
-use Rattle.ppp_duet.proofs.RowMoves.{if_false, rest_moves}
+use Rattle.ppp_duet.proofs.Queues.{all_without, Rising, rising_within, rising_from, rising_back, rising_without, by_request, by_answer}
+use Rattle.ppp_duet.proofs.RowMoves.{rest_moves}
 use Rattle.ppp_duet.proofs.TermsLemmas.{Used}
 use Rattle.ppp_duet.proofs.Turns.{Turn, turn_mine, turn_other, turn_low}
 
@@ -29,7 +30,8 @@ later_if : (got mark high : ℕ) (rest : List ℕ) (b : Bool) → got ≤ mark �
 later_if got mark high rest true h k = record { later = omega arith; rising = rising_from got mark high rest h k }
 later_if got mark high rest false h k = record { later = h; rising = k }
 
-later_after : (x : End) (mark : ℕ) (p : Packet) (high : ℕ) (rest : List ℕ) → Rising x.got high (request_mark mark p ++ rest) → Later x.got (got_after x mark p) high rest
+later_after : (x : End) (mark : ℕ) (p : Packet) (high : ℕ) (rest : List ℕ) → Rising x.got high (request_mark mark p ++ rest) →
+    Later x.got (got_after x mark p) high rest
 later_after x mark (Request id options) high rest h = later_if x.got mark high rest (is_off x.auto.state) h.0 h.1
 later_after x mark (Ack id options) high rest h = record { later = omega arith; rising = h }
 later_after x mark (Nak id options) high rest h = record { later = omega arith; rising = h }
@@ -69,82 +71,52 @@ module _ (ta tb : Terms) where
     rising : Rising x.got d.b.n (requests rest)
     later : d.a.got ≤ x.got
 
-  goes : (d : Duet) (x : End) (sent rest to_b : List Marked) → Holds ta tb d → Acts d x sent rest to_b → Goes d (record { a = x; b = d.b; to_a = rest; to_b = to_b })
+  goes : (d : Duet) (x : End) (sent rest to_b : List Marked) → Holds ta tb d → Acts d x sent rest to_b →
+      Goes d (record { a = x; b = d.b; to_a = rest; to_b = to_b })
   goes d x sent rest to_b h k =
-      let left : Half ta tb d.a d.b d.to_b rest = record {
-        ids = h.of_a.ids;
-        asked = h.of_a.asked;
-        acked = k.acked;
-        rising = h.of_a.rising;
-        answered = k.answered;
-        heard = h.of_a.heard;
-        keeps_own = h.of_a.keeps_own;
-        allowed = h.of_a.allowed;
-        knows = h.of_a.knows;
-        keeps_peer = h.of_a.keeps_peer;
-      } in
+      let below = rising_within d.b.got d.a.n (requests d.to_b) h.of_a.rising in
       record {
         holds = record {
-          of_a = rw k.queued (own_half ta tb d.a d.b x d.to_b rest sent left k.move);
+          of_a = rw k.queued (own_half ta tb d.a d.b x d.to_b d.to_a rest sent h.of_a k.acked k.answered k.move);
           of_b = rw k.queued (other_half ta tb d.a d.b x d.to_b d.to_a rest sent h.of_b k.asked k.rising k.later k.move);
-          judged = both_judged ta tb d.a d.b x d.to_b rest sent left h.judged k.move;
+          judged = both_judged ta tb d.a d.b x sent below h.judged k.move;
         };
-        mine = turn_mine ta tb d.a d.b x sent (rising_within d.b.got d.a.n (requests d.to_b) h.of_a.rising) k.move;
+        mine = turn_mine ta tb d.a d.b x sent below k.move;
         other = turn_other ta tb d.a d.b x sent h.of_b.heard k.move;
       }
 
   -- no packet is taken in
-  acts : (d : Duet) (x : End) (sent to_b : List Marked) → Holds ta tb d → x.got ≡ d.a.got → Move ta tb d.a d.b x sent → to_b ≡ d.to_b ++ sent → Acts d x sent d.to_a to_b
+  acts : (d : Duet) (x : End) (sent to_b : List Marked) → Holds ta tb d → x.got ≡ d.a.got → Move ta tb d.a d.b x sent → to_b ≡ d.to_b ++ sent →
+      Acts d x sent d.to_a to_b
   acts d x sent to_b h e m q =
       record { move = m; queued = q; acked = h.of_a.acked; answered = h.of_a.answered; asked = h.of_b.asked; rising = rw e h.of_b.rising; later = omega arith }
 
-  -- the first end stays as it is
-  stays : (d : Duet) → Holds ta tb d → Move ta tb d.a d.b d.a []
-  stays d h = rest_moves ta tb d.a d.b d.a.got refl h.of_a.ids h.of_a.heard h.of_a.keeps_own
+  -- the first end stays as it is, but for its cap
+  rests : (d : Duet) (cap' : ℕ) (sent : List Marked) → Holds ta tb d → let x : End = record d.a { auto = record d.a.auto { cap = cap' } } in
+      AllByRecursion (SentBy tb x) sent → Move ta tb d.a d.b x sent
+  rests d cap' sent h sends = rest_moves ta tb d.a d.b d.a.got cap' sent refl h.of_a.ids h.of_a.heard h.of_a.keeps_own sends
 
   cap_goes : (d : Duet) (cap : ℕ) → Holds ta tb d → Goes d (record d { a = record d.a { auto = record d.a.auto { cap = cap } } })
   cap_goes d cap h =
       let x : End = record d.a { auto = record d.a.auto { cap = cap } } in
-      let m = stays d h in
-      goes d x [] d.to_a d.to_b h (acts d x [] d.to_b h refl (record {
-        ids = m.ids;
-        more = m.more;
-        same = λ _. refl;
-        sends = tt;
-        heard = m.heard;
-        keeps_own = m.keeps_own;
-        acked = λ k. inl (record { before = k; peer = refl; got = refl; against = refl });
-        low = m.low;
-        left = m.left;
-        took = m.took;
-      }) (sym (append-nil d.to_b)))
+      goes d x [] d.to_a d.to_b h (acts d x [] d.to_b h refl (rests d cap [] h tt) (sym (append-nil d.to_b)))
 
-  rejects_goes : (d : Duet) (id : ℕ) (octets : List ℕ) → Holds ta tb d → Goes d (record d { to_b = d.to_b ++ record { mark = 0; packet = Other 8 id octets } ∷ [] })
+  rejects_goes : (d : Duet) (id : ℕ) (octets : List ℕ) → Holds ta tb d →
+      Goes d (record d { to_b = d.to_b ++ record { mark = 0; packet = Other (code_number ProtocolReject) id octets } ∷ [] })
   rejects_goes d id octets h =
-      let sent : List Marked = record { mark = 0; packet = Other 8 id octets } ∷ [] in
-      let m = stays d h in
-      goes d d.a sent d.to_a (d.to_b ++ sent) h (acts d d.a sent (d.to_b ++ sent) h refl (record {
-        ids = m.ids;
-        more = m.more;
-        same = m.same;
-        sends = (record { asks = λ id is. absurd (cc); replies = λ id is. absurd (cc) }, tt);
-        heard = m.heard;
-        keeps_own = m.keeps_own;
-        acked = m.acked;
-        low = m.low;
-        left = m.left;
-        took = m.took;
-      }) refl)
+      let sent : List Marked = record { mark = 0; packet = Other (code_number ProtocolReject) id octets } ∷ [] in
+      goes d d.a sent d.to_a (d.to_b ++ sent) h (acts d d.a sent (d.to_b ++ sent) h refl
+      (rests d d.a.auto.cap sent h (record { asks = λ _ is. absurd (cc); replies = λ _ is. absurd (cc) }, tt)) refl)
 
   -- nothing happens but that the queue to the first end gets shorter
   loses_goes : (d : Duet) (place : ℕ) → Holds ta tb d → Goes d (record d { to_a = without place d.to_a })
   loses_goes d place h = goes d d.a [] (without place d.to_a) d.to_b h (record {
-    move = stays d h;
+    move = rests d d.a.auto.cap [] h tt;
     queued = sym (append-nil d.to_b);
     acked = all_without (Acked ta) place d.to_a h.of_a.acked;
-    answered = rising_without (λ m. answer_mark m.mark m.packet) place d.to_a 0 d.b.got h.of_a.answered;
+    answered = rising_without by_answer place d.to_a 0 d.b.got h.of_a.answered;
     asked = all_without (Asked tb d.b) place d.to_a h.of_b.asked;
-    rising = rising_without (λ m. request_mark m.mark m.packet) place d.to_a d.a.got d.b.n h.of_b.rising;
+    rising = rising_without by_request place d.to_a d.a.got d.b.n h.of_b.rising;
     later = omega arith;
   })
 
@@ -180,16 +152,12 @@ module _ (compat : List ConfigOption → List ConfigOption → Type 0) (ta tb : 
       let down = does tb.setup (record d.b { got = 0 }) Down (taken_as d.b.auto (Some Down) 0) 0 word in
       let low = down_low d.b.auto.state in
       let asked = down_asks_nothing d.b.auto.state in
-      let asked' = asks (cell_of Down d.b.auto.state).actions in
-      let id = if_false asked' ((d.b.auto.next_id + 1) % 256) d.b.auto.next_id asked in
-      let n = if_false asked' (d.b.n + 1) d.b.n asked in
-      let own = if_false asked' (if begins_anew d.b.auto.state then tb.setup.table.initial word else d.b.auto.own) d.b.auto.own asked in
       let not_heard : is_heard down.end.auto.state ≡ false = low_not_heard down.end.auto.state low in
       let not_acked : has_acked down.end.auto.state ≡ false = low_not_acked down.end.auto.state low in
       record {
         holds = record {
           of_a = quiet_half ta tb (end_begun ta.setup) down.end (omega arith) (used.kept.first_kept 0) refl refl not_acked;
-          of_b = quiet_half tb ta down.end (end_begun ta.setup) (rw (id, n) h.of_b.ids) (rw own h.of_b.keeps_own) refl not_heard refl;
+          of_b = quiet_half tb ta down.end (end_begun ta.setup) (rw asked h.of_b.ids) (rw asked h.of_b.keeps_own) refl not_heard refl;
           judged = λ k. absurd (cc);
         };
         mine = turn_low d.a d.b (end_begun ta.setup) down.end refl;
@@ -197,7 +165,8 @@ module _ (compat : List ConfigOption → List ConfigOption → Type 0) (ta tb : 
       }
 
   -- what happens at the first end
-  first_goes : (d : Duet) (what : Happening) (word : ℕ) → Used compat ta → NarrowIfTaken what d → Holds ta tb d → Goes ta tb d (at_first ta.setup tb.setup d what word)
+  first_goes : (d : Duet) (what : Happening) (word : ℕ) → Used compat ta → NarrowIfTaken what d → Holds ta tb d →
+      Goes ta tb d (at_first ta.setup tb.setup d what word)
   unfolding at_first
   first_goes d (Commands e) word used narrow h = commands_goes d e word used h
   first_goes d (SetsCap cap) word used narrow h = cap_goes ta tb d cap h
@@ -215,7 +184,8 @@ turned_holds ta tb d h = record {
 }
 
 module _ (compat : List ConfigOption → List ConfigOption → Type 0) (ta tb : Terms) (used_a : Used compat ta) (used_b : Used compat tb) where
-  side_goes : (side : Side) (d : Duet) (what : Happening) (word : ℕ) → NarrowIfTaken what d → Holds ta tb d → Goes ta tb d (at_side side ta.setup tb.setup d what word)
+  side_goes : (side : Side) (d : Duet) (what : Happening) (word : ℕ) → NarrowIfTaken what d → Holds ta tb d →
+      Goes ta tb d (at_side side ta.setup tb.setup d what word)
   side_goes A d what word narrow h = first_goes compat ta tb d what word used_a narrow h
   side_goes B d what word narrow h =
       let other = turned d in

@@ -23,7 +23,7 @@ pub record Half (te tf : Terms) (e f : End) (out back : List Marked) : Type 0 wh
   pub ids : e.auto.next_id % 256 ≡ (te.setup.first + e.n) % 256
   pub asked : AllByRecursion (Asked te e) out
   pub acked : AllByRecursion (Acked te) back
-  -- the marks of the requests never fall, and those of the answers don't
+  -- in a queue the marks of requests never fall, nor do those of answers
   pub rising : Rising f.got e.n (requests out)
   pub answered : Rising 0 f.got (answers back)
   pub heard : is_heard e.auto.state ≡ true → f.got ≡ e.n

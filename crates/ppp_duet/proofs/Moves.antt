@@ -1,16 +1,16 @@
 -- What a row comes to at one end, and that it keeps the invariant: nothing is said here of tables, packets or rows.
 use Rattle.std.proofs.Common.{◌≡◌, ℕ, ◌+◌, ◌%◌, ◌≤◌, ◌<◌, ◌⊎◌, inl, inr, true, false, List, ◌++◌, sym, ◌∙◌, arith}
 use Rattle.std.specs.List.{AllByRecursion}
-use Rattle.std.proofs.Math.Logic.{⊎_map}
 use Rattle.ppp_auto.specs.Automaton.{is_heard, has_acked, is_opened}
 use Rattle.ppp_duet.specs.Duet.{End, Marked}
 use Rattle.ppp_duet.specs.Reopening.{is_low}
-use Rattle.ppp_duet.specs.Span.{request_mark, answer_mark, requests}
+use Rattle.ppp_duet.specs.Span.{requests, answers}
 use Rattle.ppp_duet.specs.Terms.{Terms}
 use Rattle.ppp_duet.proofs.Identifiers.{id_of, last_is}
 use Rattle.ppp_duet.proofs.Invariant.{Asked, Acked, Half, Judged}
 use Rattle.ppp_duet.proofs.Packets.{Sent, sent_requests, sent_answers}
-use Rattle.ppp_duet.proofs.Queues.{ack_answers, all_weaker, all_append, Rising, rising_within, rising_newest}
+use Rattle.ppp_duet.proofs.Queues.{ack_answers, all_weaker, all_append, Rising, rising_within, rising_newest, by_request, by_answer}
+use Rattle.ppp_packet.specs.ConfigOption.{ConfigOption}
 
 -- the peer's list stood acknowledged, and stands
 pub record Stood (x x' : End) : Type 0 where
@@ -63,16 +63,18 @@ module _ (tx ty : Terms) where
   acked_now x' m s id is = (s.replies id (ack_answers m.packet id is)).0
 
   -- of the requests of the end that moved
-  pub own_half : (x y x' : End) (out rest sent : List Marked) → Half tx ty x y out rest → Move tx ty x y x' sent → Half tx ty x' y (out ++ sent) rest
-  own_half x y x' out rest sent h move =
+  pub own_half : (x y x' : End) (out before rest sent : List Marked) → Half tx ty x y out before → AllByRecursion (Acked tx) rest →
+      Rising 0 y.got (answers rest) →
+      Move tx ty x y x' sent → Half tx ty x' y (out ++ sent) rest
+  own_half x y x' out before rest sent h acked answered move =
       let below : y.got ≤ x.n = rising_within y.got x.n (requests out) h.rising in
       record {
         ids = move.ids;
         asked = all_append (Asked tx x') out sent (all_weaker (asked_before x x' move.more move.same) out h.asked)
             (all_weaker (asked_now x y x' sent move) sent move.sends);
-        acked = h.acked;
-        rising = rising_newest (λ m. request_mark m.mark m.packet) y.got x.n x'.n out sent move.more h.rising (sent_requests x'.n x'.auto (AnswersTo ty x'.got) sent move.sends);
-        answered = h.answered;
+        acked = acked;
+        rising = rising_newest by_request y.got x.n x'.n out sent move.more h.rising (sent_requests x'.n x'.auto (AnswersTo ty x'.got) sent move.sends);
+        answered = answered;
         heard = move.heard;
         keeps_own = move.keeps_own;
         allowed = h.allowed;
@@ -80,18 +82,11 @@ module _ (tx ty : Terms) where
         keeps_peer = h.keeps_peer;
       }
 
-  allowed_now : (x y x' : End) → (has_acked x.auto.state ≡ true → tx.allows x.against x.auto.peer) → Stood x x' ⊎ Fresh tx ty x' y → tx.allows x'.against x'.auto.peer
-  allowed_now x y x' h (inl s) = rw (s.against, s.peer) (h s.before)
-  allowed_now x y x' h (inr f) = f.allowed
-
-  knows_now : (x y x' : End) → (has_acked x.auto.state ≡ true → x.got ≡ y.n → x.auto.peer ≡ y.auto.own) →
-      x'.got ≡ y.n → Stood x x' ⊎ Fresh tx ty x' y → x'.auto.peer ≡ y.auto.own
-  knows_now x y x' h newest (inl s) = s.peer ∙ h s.before (sym s.got ∙ newest)
-  knows_now x y x' h newest (inr f) = f.knows newest
-
-  keeps_now : (x y x' : End) → (has_acked x.auto.state ≡ true → ty.keeps x.auto.peer) → Stood x x' ⊎ Fresh tx ty x' y → ty.keeps x'.auto.peer
-  keeps_now x y x' h (inl s) = rw s.peer (h s.before)
-  keeps_now x y x' h (inr f) = f.keeps_peer
+  -- of the peer's list, whether it stood acknowledged or was just now
+  now : (P : List ConfigOption → List ConfigOption → Type 0) (x y x' : End) → (has_acked x.auto.state ≡ true → P x.against x.auto.peer) →
+      (Fresh tx ty x' y → P x'.against x'.auto.peer) → Stood x x' ⊎ Fresh tx ty x' y → P x'.against x'.auto.peer
+  now P x y x' h k (inl s) = rw (s.against, s.peer) (h s.before)
+  now P x y x' h k (inr f) = k f
 
   -- of the requests of the other end, over what is left of its queue
   pub other_half : (x y x' : End) (out before rest sent : List Marked) → Half ty tx y x before out →
@@ -103,24 +98,19 @@ module _ (tx ty : Terms) where
         asked = asked;
         acked = all_append (Acked ty) out sent h.acked (all_weaker (acked_now x') sent move.sends);
         rising = rising;
-        answered = rising_newest (λ m. answer_mark m.mark m.packet) 0 x.got x'.got out sent later h.answered
+        answered = rising_newest by_answer 0 x.got x'.got out sent later h.answered
             (sent_answers x'.n x'.auto (AnswersTo ty x'.got) (λ mark. mark ≡ x'.got) (λ mark id k. k.1) sent move.sends);
         heard = λ heard. let was : x.got ≡ y.n = h.heard heard in omega arith;
         keeps_own = h.keeps_own;
-        allowed = λ acked. allowed_now x y x' h.allowed (move.acked acked);
-        knows = λ acked newest. knows_now x y x' h.knows newest (move.acked acked);
-        keeps_peer = λ acked. keeps_now x y x' h.keeps_peer (move.acked acked);
+        allowed = λ acked. now tx.allows x y x' h.allowed (λ f. f.allowed) (move.acked acked);
+        knows = λ acked newest. let k = move.acked acked in grind (arith, h.knows);
+        keeps_peer = λ acked. now (λ _ peer. ty.keeps peer) x y x' h.keeps_peer (λ f. f.keeps_peer) (move.acked acked);
       }
 
-  judged_now : (x y x' : End) → Judged x y → has_acked y.auto.state ≡ true → x'.got ≡ y.n → y.got ≡ x.n → x'.auto.own ≡ x.auto.own →
-      Stood x x' ⊎ Fresh tx ty x' y → (x'.against ≡ x'.auto.own) ⊎ (y.against ≡ y.auto.own)
-  judged_now x y x' h acked newest got own (inl s) =
-      ⊎_map (λ e. s.against ∙ e ∙ sym own) (λ e. e) (h s.before acked (sym s.got ∙ newest) got)
-  judged_now x y x' h acked newest got own (inr f) = inl f.against
-
   -- of both
-  pub both_judged : (x y x' : End) (out rest sent : List Marked) → Half tx ty x y out rest → Judged x y → Move tx ty x y x' sent → Judged x' y
-  both_judged x y x' out rest sent h j move mine acked newest got =
-      let below : y.got ≤ x.n = rising_within y.got x.n (requests out) h.rising in
-      let stays : x'.n ≡ x.n = omega (arith, move.more) in
-      judged_now x y x' j acked newest (got ∙ stays) (move.same stays) (move.acked mine)
+  pub both_judged : (x y x' : End) (sent : List Marked) → y.got ≤ x.n → Judged x y → Move tx ty x y x' sent → Judged x' y
+  both_judged x y x' sent below j move mine acked newest got =
+      let k = move.acked mine in
+      let more = move.more in
+      let same = move.same in
+      grind (arith, j)

@@ -1,5 +1,5 @@
 -- What a packet does at the end that takes it in is a move.
-use Rattle.std.proofs.Common.{◌≡◌, ℕ, ◌+◌, ◌≤◌, List, ◌∷◌, Option, Some, None, refl, sym, ◌∙◌, arith}
+use Rattle.std.proofs.Common.{◌≡◌, ℕ, ◌+◌, ◌≤◌, List, ◌∷◌, Option, Some, None, refl, sym, ◌∙◌, arith, []}
 use Rattle.ppp_packet.specs.ConfigOption.{ConfigOption}
 use Rattle.ppp_auto.specs.declared.auto_event.AutoEvent.{AutoEvent}
 use Rattle.ppp_auto.specs.declared.input.Input.{Input}
@@ -11,10 +11,10 @@ use Rattle.ppp_duet.specs.Terms.{Terms}
 use Rattle.ppp_duet.proofs.Identifiers.{same_ordinal, last_is}
 use Rattle.ppp_duet.proofs.Invariant.{Asked, Half}
 use Rattle.ppp_duet.proofs.Moves.{AnswersTo, Move}
-use Rattle.ppp_duet.proofs.Queues.{ack_id, rising_within}
+use Rattle.ppp_duet.proofs.Queues.{answer_marked, ack_answers, options_in, ack_id, rising_within}
 use Rattle.ppp_duet.proofs.RowMoves.{Ready, keeps_if, row_moves, rest_moves}
 use Rattle.ppp_duet.proofs.SpanLemmas.{answer_near}
-use Rattle.ppp_duet.proofs.TakenLemmas.{command_asks_nothing, command_acks_nothing, good_is_request, replies, ack_named, got_else, got_on, good_asks, good_own, theirs_are, good_passes, other_adapted, nak_adapted}
+use Rattle.ppp_duet.proofs.TakenLemmas.{command_asks_nothing, command_acks_nothing, good_is_request, replies, ack_named, got_else, got_on, good_asks, good_own, theirs_are, good_passes, other_adapted, nak_kept}
 use Rattle.ppp_duet.proofs.TermsLemmas.{Used}
 
 module _ (compat : List ConfigOption → List ConfigOption → Type 0) (tx ty : Terms) where
@@ -35,24 +35,24 @@ module _ (compat : List ConfigOption → List ConfigOption → Type 0) (tx ty : 
   adapted_kept : (x : End) (p : Packet) (word : ℕ) → Used compat tx → tx.keeps x.auto.own → tx.keeps (kind tx.setup.table x.auto p word).adapted
   adapted_kept x (Request id theirs) word used own = own
   adapted_kept x (Ack id options) word used own = own
-  adapted_kept x (Nak id options) word used own = rw (nak_adapted x.auto (is_nak_of x.auto id options) id (tx.setup.table.adapt_nak x.auto.own options word)) (keeps_if tx.keeps (is_nak_of x.auto id options) _ x.auto.own (used.kept.after_nak_kept x.auto.own options word own) own)
-  adapted_kept x (Reject id options) word used own = rw (nak_adapted x.auto (is_reject_of x.auto id options) id (tx.setup.table.adapt_reject x.auto.own options word)) (keeps_if tx.keeps (is_reject_of x.auto id options) _ x.auto.own (used.kept.after_reject_kept x.auto.own options word own) own)
+  adapted_kept x (Nak id options) word used own =
+      nak_kept tx.keeps x.auto (is_nak_of x.auto id options) id (tx.setup.table.adapt_nak x.auto.own options word) (used.kept.after_nak_kept x.auto.own options word own) own
+  adapted_kept x (Reject id options) word used own =
+      nak_kept tx.keeps x.auto (is_reject_of x.auto id options) id (tx.setup.table.adapt_reject x.auto.own options word) (used.kept.after_reject_kept x.auto.own options word own) own
   adapted_kept x (Other code id octets) word used own = rw (other_adapted tx.setup.table x.auto code id octets word) own
 
   -- an Ack that counts is one of the newest request
   ack_newest : (x y : End) (mark : ℕ) (p : Packet) (out rest : List Marked) → span_of x.n out (record { mark = mark; packet = p } ∷ rest) ≤ widest →
       Half tx ty x y out (record { mark = mark; packet = p } ∷ rest) → ack_id p ≡ Some (last_id x.auto) → y.got ≡ x.n
-  ack_newest x y mark (Ack id options) out rest narrow h is =
+  ack_newest x y mark p out rest narrow h is =
+      let last = last_id x.auto in
+      let answers = ack_answers p last is in
+      let marks = rw (answer_marked mark p, answers) at h.answered in
       let below : y.got ≤ x.n = rising_within y.got x.n (requests out) h.rising in
-      let taken : mark ≤ y.got = rising_within mark y.got _ h.answered.1 in
-      let near : x.n ≤ mark + 255 = answer_near x.n out mark (Ack id options) id rest refl narrow in
-      let named : id ≡ last_id x.auto = cc in
-      let newest : mark ≡ x.n = same_ordinal tx.setup.first mark x.n (sym (h.acked.0 id refl) ∙ named ∙ last_is tx.setup.first x.auto.next_id x.n h.ids) (omega arith) near in
+      let taken : mark ≤ y.got = rising_within mark y.got _ marks.1 in
+      let near : x.n ≤ mark + 255 = answer_near x.n out mark p last rest answers narrow in
+      let newest : mark ≡ x.n = same_ordinal tx.setup.first mark x.n (sym (h.acked.0 last is) ∙ last_is tx.setup.first x.auto.next_id x.n h.ids) (omega arith) near in
       omega arith
-  ack_newest x y mark (Request id options) out rest narrow h is = absurd (cc)
-  ack_newest x y mark (Nak id options) out rest narrow h is = absurd (cc)
-  ack_newest x y mark (Reject id options) out rest narrow h is = absurd (cc)
-  ack_newest x y mark (Other code id octets) out rest narrow h is = absurd (cc)
 
   packet_ready : (x y : End) (m : Marked) (out rest : List Marked) (word : ℕ) → Used compat tx → span_of x.n out (m ∷ rest) ≤ widest →
       Half tx ty x y out (m ∷ rest) → Asked ty y m →
@@ -72,7 +72,7 @@ module _ (compat : List ConfigOption → List ConfigOption → Type 0) (tx ty : 
             let own = keeps_if tx.keeps (is_stopped x.auto.state) (t.initial word) x.auto.own (used.kept.first_kept word) h.keeps_own in
             record {
               own = good_own t x.auto m.packet word good;
-              allowed = rw theirs (used.allowed (judging t x.auto word) _ word own (good_passes t x.auto m.packet word taken.id is good));
+              allowed = rw theirs (used.allowed (judging t x.auto word) (options_in m.packet) word own (good_passes t x.auto m.packet word good));
               knows = λ e. theirs ∙ ask.2 (sym (got_on x m.mark taken.id m.packet is on) ∙ e);
               keeps_peer = rw theirs ask.3;
             };
@@ -84,7 +84,7 @@ module _ (compat : List ConfigOption → List ConfigOption → Type 0) (tx ty : 
       Ready tx ty x y got input taken mark word →
       let did = does_if tx.setup (record x { got = got }) input taken mark word in
       Move tx ty x y did.end did.sent
-  if_moves x y got None taken mark word out back used h ready = rest_moves tx ty x y got (ready.got_else refl) h.ids h.heard h.keeps_own
+  if_moves x y got None taken mark word out back used h ready = rest_moves tx ty x y got x.auto.cap [] (ready.got_else refl) h.ids h.heard h.keeps_own tt
   if_moves x y got (Some input) taken mark word out back used h ready =
       row_moves tx ty x y got input taken mark word ready h.ids h.heard h.keeps_own (used.kept.first_kept word)
 

@@ -6,9 +6,9 @@ use Rattle.ppp_auto.specs.declared.action.Action.TheVariants.{ThisLayerUp, ThisL
 use Rattle.ppp_auto.specs.Automaton.{Auto, last_id, Taken, Effect, answering, effects}
 use Rattle.ppp_auto.specs.Packet.{Packet, Request, Other}
 use Rattle.ppp_duet.specs.Duet.{Marked, marked}
-use Rattle.ppp_duet.specs.Span.{request_mark, answer_mark, requests, answers}
+use Rattle.ppp_duet.specs.Span.{requests, answers}
 use Rattle.ppp_duet.proofs.EventTableLemmas.{sends_answer}
-use Rattle.ppp_duet.proofs.Queues.{request_id, answer_id, options_in, answer_marked, marks_all, request_marks, answer_marks}
+use Rattle.ppp_duet.proofs.Queues.{request_id, answer_id, options_in, answer_mark_of, request_marked, answer_marked, mark_all, marks_all, by_request, by_answer}
 
 -- A request has that mark, and the Identifier and list of the end after the row; an answer has `P` of mark and
 -- Identifier.
@@ -37,7 +37,7 @@ module _ (n mark : ℕ) (old new : Auto) (taken : Taken) (P : ℕ → ℕ → Ty
   answer_sent None es h k = k
   answer_sent (Some p) es h k =
       let replies = h p refl in
-      (record { asks = λ id is. cc; replies = λ id is. rw (answer_marked n mark id p is) (replies.1 id is) }, k)
+      (record { asks = λ id is. cc; replies = λ id is. rw (answer_mark_of n mark id p is) (replies.1 id is) }, k)
 
   pub all_sent : (actions : List Action) → (sends_answer actions ≡ true → RepliesIf (P mark) taken.answer) → AreSent (effects old new taken actions)
   all_sent [] h = tt
@@ -57,11 +57,12 @@ module _ (n mark : ℕ) (old new : Auto) (taken : Taken) (P : ℕ → ℕ → Ty
   all_sent (SendEchoReply ∷ more) h = answer_sent taken.answer (effects old new taken more) (h refl) (all_sent more (λ _. h refl))
 
 -- the marks of what is sent
-pub sent_requests : (n : ℕ) (new : Auto) (P : ℕ → ℕ → Type 0) (sent : List Marked) → AllByRecursion (Sent n new P) sent → AllByRecursion (λ mark. mark ≡ n) (requests sent)
+pub sent_requests : (n : ℕ) (new : Auto) (P : ℕ → ℕ → Type 0) (sent : List Marked) → AllByRecursion (Sent n new P) sent →
+    AllByRecursion (λ mark. mark ≡ n) (requests sent)
 sent_requests n new P sent h =
-    marks_all (λ m. request_mark m.mark m.packet) (λ mark. mark ≡ n) (λ m (s : Sent n new P m). request_marks (λ mark. mark ≡ n) m.mark m.packet (λ id is. (s.asks id is).0)) sent h
+    marks_all by_request (λ mark. mark ≡ n) (λ m (s : Sent n new P m). rw (request_marked m.mark m.packet) (mark_all (λ mark. mark ≡ n) m.mark (request_id m.packet) (λ id is. (s.asks id is).0))) sent h
 
 pub sent_answers : (n : ℕ) (new : Auto) (P : ℕ → ℕ → Type 0) (Q : ℕ → Type 0) → ((mark id : ℕ) → P mark id → Q mark) →
     (sent : List Marked) → AllByRecursion (Sent n new P) sent → AllByRecursion Q (answers sent)
 sent_answers n new P Q step sent h =
-    marks_all (λ m. answer_mark m.mark m.packet) Q (λ m (s : Sent n new P m). answer_marks Q m.mark m.packet (λ id is. step m.mark id (s.replies id is))) sent h
+    marks_all by_answer Q (λ m (s : Sent n new P m). rw (answer_marked m.mark m.packet) (mark_all Q m.mark (answer_id m.packet) (λ id is. step m.mark id (s.replies id is)))) sent h

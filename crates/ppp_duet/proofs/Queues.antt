@@ -30,8 +30,8 @@ options_in p = []
 pub ack_answers : (p : Packet) (id : ℕ) → ack_id p ≡ Some id → answer_id p ≡ Some id
 ack_answers p id is = grind arith
 
-pub answer_marked : (n mark id : ℕ) (p : Packet) → answer_id p ≡ Some id → mark_of n mark p ≡ mark
-answer_marked n mark id p is = grind arith
+pub answer_mark_of : (n mark id : ℕ) (p : Packet) → answer_id p ≡ Some id → mark_of n mark p ≡ mark
+answer_mark_of n mark id p is = grind arith
 
 pub all_weaker : {X : Type 0} {P Q : X → Type 0} → ((x : X) → P x → Q x) → (xs : List X) → AllByRecursion P xs → AllByRecursion Q xs
 all_weaker step [] h = tt
@@ -55,36 +55,29 @@ all_without P zero (x ∷ xs) h = h
 all_without P (suc zero) (x ∷ xs) h = h.1
 all_without P (suc (suc place)) (x ∷ xs) h = (h.0, all_without P (suc place) xs h.1)
 
--- the marks of one packet
-pub request_marks : (P : ℕ → Type 0) (mark : ℕ) (p : Packet) → ((id : ℕ) → request_id p ≡ Some id → P mark) → AllByRecursion P (request_mark mark p)
-request_marks P mark (Request id options) h = (h id refl, tt)
-request_marks P mark (Ack id options) h = tt
-request_marks P mark (Nak id options) h = tt
-request_marks P mark (Reject id options) h = tt
-request_marks P mark (Other code id octets) h = tt
+-- the mark of a request, and of an answer
+abbrev pub by_request : Marked → List ℕ
+by_request m = request_mark m.mark m.packet
 
-pub answer_marks : (P : ℕ → Type 0) (mark : ℕ) (p : Packet) → ((id : ℕ) → answer_id p ≡ Some id → P mark) → AllByRecursion P (answer_mark mark p)
-answer_marks P mark (Request id options) h = tt
-answer_marks P mark (Ack id options) h = (h id refl, tt)
-answer_marks P mark (Nak id options) h = (h id refl, tt)
-answer_marks P mark (Reject id options) h = (h id refl, tt)
-answer_marks P mark (Other code id octets) h = tt
+abbrev pub by_answer : Marked → List ℕ
+by_answer m = answer_mark m.mark m.packet
 
-pub mark_asked : (P : ℕ → Type 0) (mark : ℕ) (p : Packet) (id : ℕ) → request_id p ≡ Some id → AllByRecursion P (request_mark mark p) → P mark
-mark_asked P mark (Request i options) id is h = h.0
-mark_asked P mark (Ack i options) id is h = absurd (cc)
-mark_asked P mark (Nak i options) id is h = absurd (cc)
-mark_asked P mark (Reject i options) id is h = absurd (cc)
-mark_asked P mark (Other code i octets) id is h = absurd (cc)
+-- the mark, if the packet is of that kind
+abbrev pub mark_if : ℕ → Option ℕ → List ℕ
+mark_if mark None = []
+mark_if mark (Some id) = mark ∷ []
 
-pub mark_answered : (P : ℕ → Type 0) (mark : ℕ) (p : Packet) (id : ℕ) → answer_id p ≡ Some id → AllByRecursion P (answer_mark mark p) → P mark
-mark_answered P mark (Request i options) id is h = absurd (cc)
-mark_answered P mark (Ack i options) id is h = h.0
-mark_answered P mark (Nak i options) id is h = h.0
-mark_answered P mark (Reject i options) id is h = h.0
-mark_answered P mark (Other code i octets) id is h = absurd (cc)
+pub request_marked : (mark : ℕ) (p : Packet) → request_mark mark p ≡ mark_if mark (request_id p)
+request_marked mark p = grind arith
 
--- and of a queue's packets
+pub answer_marked : (mark : ℕ) (p : Packet) → answer_mark mark p ≡ mark_if mark (answer_id p)
+answer_marked mark p = grind arith
+
+pub mark_all : (P : ℕ → Type 0) (mark : ℕ) (o : Option ℕ) → ((id : ℕ) → o ≡ Some id → P mark) → AllByRecursion P (mark_if mark o)
+mark_all P mark None h = tt
+mark_all P mark (Some id) h = (h id refl, tt)
+
+-- the marks of a queue's packets
 pub marks_all : (f : Marked → List ℕ) (P : ℕ → Type 0) {Q : Marked → Type 0} → ((m : Marked) → Q m → AllByRecursion P (f m)) →
     (ms : List Marked) → AllByRecursion Q ms → AllByRecursion P (flat_map f ms)
 marks_all f P each [] h = tt
@@ -94,7 +87,8 @@ pub marks_append : (f : Marked → List ℕ) (P : ℕ → Type 0) (ms ns : List 
     AllByRecursion P (flat_map f (ms ++ ns))
 marks_append f P ms ns h k = rw (flat_map-append f ms ns) (all_append P (flat_map f ms) (flat_map f ns) h k)
 
-pub marks_without : (f : Marked → List ℕ) (P : ℕ → Type 0) (place : ℕ) (ms : List Marked) → AllByRecursion P (flat_map f ms) → AllByRecursion P (flat_map f (without place ms))
+pub marks_without : (f : Marked → List ℕ) (P : ℕ → Type 0) (place : ℕ) (ms : List Marked) → AllByRecursion P (flat_map f ms) →
+    AllByRecursion P (flat_map f (without place ms))
 marks_without f P place [] h = tt
 marks_without f P zero (m ∷ ms) h = h
 marks_without f P (suc zero) (m ∷ ms) h = all_back P (f m) (flat_map f ms) h
@@ -120,7 +114,8 @@ rising_back low high [] ns h = h
 rising_back low high (m ∷ ms) ns h = rising_back low high ms ns (rising_from low m high (ms ++ ns) h.0 h.1)
 
 -- with another back
-pub rising_front : (low high : ℕ) (ms ns other : List ℕ) → ((from : ℕ) → Rising from high ns → Rising from high other) → Rising low high (ms ++ ns) → Rising low high (ms ++ other)
+pub rising_front : (low high : ℕ) (ms ns other : List ℕ) → ((from : ℕ) → Rising from high ns → Rising from high other) → Rising low high (ms ++ ns) →
+    Rising low high (ms ++ other)
 rising_front low high [] ns other step h = step low h
 rising_front low high (m ∷ ms) ns other step h = (h.0, rising_front m high ms ns other step h.1)
 
@@ -132,7 +127,8 @@ rising_same : (n : ℕ) (ms : List ℕ) → AllByRecursion (λ m. m ≡ n) ms �
 rising_same n [] h = omega arith
 rising_same n (m ∷ ms) h = (omega (arith, h.0), rising_from m n n ms (omega (arith, h.0)) (rising_same n ms h.1))
 
-pub rising_without : (f : Marked → List ℕ) (place : ℕ) (ms : List Marked) (low high : ℕ) → Rising low high (flat_map f ms) → Rising low high (flat_map f (without place ms))
+pub rising_without : (f : Marked → List ℕ) (place : ℕ) (ms : List Marked) (low high : ℕ) → Rising low high (flat_map f ms) →
+    Rising low high (flat_map f (without place ms))
 rising_without f place [] low high h = h
 rising_without f zero (m ∷ ms) low high h = h
 rising_without f (suc zero) (m ∷ ms) low high h = rising_back low high (f m) (flat_map f ms) h
@@ -140,7 +136,8 @@ rising_without f (suc (suc place)) (m ∷ ms) low high h =
     rising_front low high (f m) (flat_map f ms) (flat_map f (without (suc place) ms)) (λ from. rising_without f (suc place) ms from high) h
 
 -- the newest go behind the others, and may be newer
-pub rising_newest : (f : Marked → List ℕ) (low mid high : ℕ) (ms ns : List Marked) → mid ≤ high → Rising low mid (flat_map f ms) → AllByRecursion (λ m. m ≡ high) (flat_map f ns) →
+pub rising_newest : (f : Marked → List ℕ) (low mid high : ℕ) (ms ns : List Marked) → mid ≤ high → Rising low mid (flat_map f ms) →
+    AllByRecursion (λ m. m ≡ high) (flat_map f ns) →
     Rising low high (flat_map f (ms ++ ns))
 rising_newest f low mid high ms ns e h k =
     rw (flat_map-append f ms ns) (rising_append low mid high (flat_map f ms) (flat_map f ns) h (rising_from mid high high (flat_map f ns) e (rising_same high (flat_map f ns) k)))

@@ -7,7 +7,7 @@ use Rattle.ppp_duet.specs.Agreement.{Agree}
 use Rattle.ppp_duet.specs.Duet.{End, Duet, Marked, Setup, Side, Event, happens, run, start}
 use Rattle.ppp_duet.specs.NarrowRun.{NarrowIfTaken, IsNarrowWhereTaken}
 use Rattle.ppp_duet.specs.Reached.{Reached, IsKeptIn, Lists, Carried, IdsFollow, OldestFirst}
-use Rattle.ppp_duet.specs.Reopening.{end_beyond, IsOpenedAt, Waits}
+use Rattle.ppp_duet.specs.Reopening.{IsOpenedAt, IsOpenedBeyond, Waits}
 use Rattle.ppp_duet.specs.Span.{requests, answers, least}
 use Rattle.ppp_duet.specs.Terms.{Terms, AreLawful, KeptBy}
 use Rattle.ppp_duet.proofs.AgreementLemmas.{opened_agree}
@@ -40,7 +40,8 @@ reached_more sa sb d [] narrow r = r
 reached_more sa sb d (e ∷ es) narrow r = reached_more sa sb (happens sa sb d e) es narrow.1 (reached_on sa sb d e narrow.0 r)
 
 -- the invariant, for a property of lists that each end's table keeps
-pub reached_holds : (compat : List ConfigOption → List ConfigOption → Type 0) (ta tb : Terms) → Used compat ta → Used compat tb → (d : Duet) → Reached ta.setup tb.setup d → Holds ta tb d
+pub reached_holds : (compat : List ConfigOption → List ConfigOption → Type 0) (ta tb : Terms) → Used compat ta → Used compat tb → (d : Duet) →
+    Reached ta.setup tb.setup d → Holds ta tb d
 reached_holds compat ta tb used_a used_b d r =
     subst (Holds ta tb) r.ends (run_holds compat ta tb used_a used_b r.events (start ta.setup tb.setup) r.narrow (start_holds compat ta tb used_a used_b))
 
@@ -65,7 +66,8 @@ oldest_at sa sb d r =
 asked_kept : (t : Terms) (keeps : List ConfigOption → Type 0) (e : End) (m : Marked) → Asked (with_kept t keeps) e m → IsKeptIn keeps m
 asked_kept t keeps e m h id options is = let k : keeps (options_in (Request id options)) = rw is at (h id (rw is)).3.1 in k
 
-lists : (te tf : Terms) (keeps : List ConfigOption → Type 0) (e f : End) (out back : List Marked) → Half (with_kept te keeps) tf e f out back → Lists keeps e f out
+lists : (te tf : Terms) (keeps : List ConfigOption → Type 0) (e f : End) (out back : List Marked) → Half (with_kept te keeps) tf e f out back →
+    Lists keeps e f out
 lists te tf keeps e f out back h = record {
   own = h.keeps_own.1;
   under_way = all_weaker (asked_kept te keeps e) out h.asked;
@@ -76,11 +78,13 @@ module _ (compat : List ConfigOption → List ConfigOption → Type 0) (ta tb : 
   reached_sends : (d : Duet) → Reached ta.setup tb.setup d → Holds ta tb d
   reached_sends = reached_holds compat ta tb (used compat ta lawful_a) (used compat tb lawful_b)
 
-  pub agreement_at : (d : Duet) → Reached ta.setup tb.setup d → d.a.auto.state ≡ Opened → d.b.auto.state ≡ Opened → Agree ta.keeps tb.keeps ta.allows tb.allows compat d
+  pub agreement_at : (d : Duet) → Reached ta.setup tb.setup d → d.a.auto.state ≡ Opened → d.b.auto.state ≡ Opened →
+      Agree ta.keeps tb.keeps ta.allows tb.allows compat d
   agreement_at d r = opened_agree compat ta tb (used compat ta lawful_a) (used compat tb lawful_b) d (reached_sends d r)
 
   -- a property that a table keeps is one of each list that its end asks for and the other one acknowledged
-  pub carried_at : (keeps_a keeps_b : List ConfigOption → Type 0) → KeptBy ta.setup.table keeps_a → KeptBy tb.setup.table keeps_b → (d : Duet) → Reached ta.setup tb.setup d →
+  pub carried_at : (keeps_a keeps_b : List ConfigOption → Type 0) → KeptBy ta.setup.table keeps_a → KeptBy tb.setup.table keeps_b → (d : Duet) →
+      Reached ta.setup tb.setup d →
       Carried keeps_a keeps_b d
   carried_at keeps_a keeps_b kept_a kept_b d r =
       let ka = with_kept ta keeps_a in
@@ -96,7 +100,7 @@ module _ (compat : List ConfigOption → List ConfigOption → Type 0) (ta tb : 
 
   -- one event later
   pub onward_at : (out : Type 0) (side : Side) (d : Duet) (e : Event) → Reached ta.setup tb.setup d → NarrowIfTaken e.what d →
-      (¬ ((end_beyond side d).auto.state ≡ Opened) → out) → (¬ ((end_beyond side (happens ta.setup tb.setup d e)).auto.state ≡ Opened) → out) →
+      (¬ (IsOpenedBeyond side d) → out) → (¬ (IsOpenedBeyond side (happens ta.setup tb.setup d e)) → out) →
       Waits out side d → Waits out side (happens ta.setup tb.setup d e)
   onward_at out side d e r narrow = waits_on compat ta tb (used compat ta lawful_a) (used compat tb lawful_b) out side d e narrow (reached_sends d r)
 

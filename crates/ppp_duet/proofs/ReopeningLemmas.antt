@@ -6,7 +6,7 @@ use Rattle.ppp_auto.specs.declared.auto_state.AutoState.TheVariants.{Opened}
 use Rattle.ppp_auto.specs.Automaton.{is_opened}
 use Rattle.ppp_duet.specs.Duet.{Duet, Side, A, B, Event, happens, run, start}
 use Rattle.ppp_duet.specs.NarrowRun.{NarrowIfTaken, IsNarrowRun, IsNarrowWhereTaken}
-use Rattle.ppp_duet.specs.Reopening.{end_at, end_beyond, IsOpenedAt, StaysOut, IsOnceOut, Away, Waits}
+use Rattle.ppp_duet.specs.Reopening.{end_at, end_beyond, IsOpenedAt, IsOpenedBeyond, StaysOut, IsOnceOut, Away, Waits}
 use Rattle.ppp_duet.specs.Terms.{Terms}
 use Rattle.ppp_duet.proofs.Events.{event_goes, run_holds, start_holds}
 use Rattle.ppp_duet.proofs.Invariant.{Holds}
@@ -14,14 +14,11 @@ use Rattle.ppp_duet.proofs.NarrowRunLemmas.{where_taken, narrow_front, narrow_ba
 use Rattle.ppp_duet.proofs.TermsLemmas.{Used}
 use Rattle.ppp_duet.proofs.Turns.{Turn}
 
-opened_is : (s : AutoState) → s ≡ Opened → is_opened s ≡ true
-opened_is s e = rw e
-
 is_opened_at : (s : AutoState) → is_opened s ≡ true → s ≡ Opened
 is_opened_at s e = grind arith
 
 not_opened : (s : AutoState) → is_opened s ≡ false → ¬ (s ≡ Opened)
-not_opened s e h = let yes : is_opened s ≡ true = opened_is s h in cc
+not_opened s e h = grind arith
 
 module _ (compat : List ConfigOption → List ConfigOption → Type 0) (ta tb : Terms) (used_a : Used compat ta) (used_b : Used compat tb) where
   abbrev then : Duet → Event → Duet
@@ -36,12 +33,11 @@ module _ (compat : List ConfigOption → List ConfigOption → Type 0) (ta tb : 
   pub waits_left : (side : Side) (d : Duet) (e : Event) → NarrowIfTaken e.what d → Holds ta tb d → IsOpenedAt side d → ¬ (IsOpenedAt side (then d e)) →
       Away (end_at side (then d e)) (end_beyond side (then d e))
   waits_left side d e narrow h opened out =
-      ⊎_elim (λ k. absurd (out (is_opened_at (end_at side (then d e)).auto.state k))) (λ k. k)
-      ((turn side d e narrow h).left (opened_is (end_at side d).auto.state opened))
+      ⊎_elim (λ k. absurd (out (is_opened_at (end_at side (then d e)).auto.state k))) (λ k. k) ((turn side d e narrow h).left (rw opened))
 
   -- one event later
   pub waits_on : (out : Type 0) (side : Side) (d : Duet) (e : Event) → NarrowIfTaken e.what d → Holds ta tb d →
-      (¬ ((end_beyond side d).auto.state ≡ Opened) → out) → (¬ ((end_beyond side (then d e)).auto.state ≡ Opened) → out) → Waits out side d → Waits out side (then d e)
+      (¬ (IsOpenedBeyond side d) → out) → (¬ (IsOpenedBeyond side (then d e)) → out) → Waits out side d → Waits out side (then d e)
   waits_on out side d e narrow h before after (inl k) = inl k
   waits_on out side d e narrow h before after (inr k) =
       ⊎_elim (λ o. inl (before (not_opened (end_beyond side d).auto.state o)))
@@ -49,15 +45,15 @@ module _ (compat : List ConfigOption → List ConfigOption → Type 0) (ta tb : 
       ((turn side d e narrow h).onward k)
 
   -- an end enters Opened
-  pub waits_entered : (out : Type 0) (side : Side) (d : Duet) (e : Event) → NarrowIfTaken e.what d → Holds ta tb d → IsOpenedAt side (then d e) → Waits out side d → out
+  pub waits_entered : (out : Type 0) (side : Side) (d : Duet) (e : Event) → NarrowIfTaken e.what d → Holds ta tb d → IsOpenedAt side (then d e) →
+      Waits out side d → out
   waits_entered out side d e narrow h opened (inl k) = k
-  waits_entered out side d e narrow h opened (inr k) =
-      absurd ((turn side d e narrow h).enters k (opened_is (end_at side (then d e)).auto.state opened))
+  waits_entered out side d e narrow h opened (inr k) = absurd ((turn side d e narrow h).enters k (rw opened))
 
   abbrev Out : Side → List Event → Duet → Type 0
   Out side es d = IsOnceOut ta.setup tb.setup side es d
 
-  first_out : (side : Side) (es : List Event) (d : Duet) → ¬ ((end_beyond side d).auto.state ≡ Opened) → Out side es d
+  first_out : (side : Side) (es : List Event) (d : Duet) → ¬ (IsOpenedBeyond side d) → Out side es d
   first_out side [] d h = h
   first_out side (e ∷ es) d h = inl h
 

@@ -43,16 +43,20 @@ none_listed None e = refl
 none_listed (Some o) e = cc
 
 -- what is acknowledged has nothing to reject, nothing better and nothing missing
-none_refused : (naks id : ℕ) (theirs refused better missing bad : List ConfigOption) → (reply_with naks id theirs refused better missing bad).input ≡ ReceiveConfigureRequestGood → refused ≡ []
+none_refused : (naks id : ℕ) (theirs refused better missing bad : List ConfigOption) →
+    (reply_with naks id theirs refused better missing bad).input ≡ ReceiveConfigureRequestGood → refused ≡ []
 none_refused naks id theirs refused better missing bad h = grind (arith, nat_tests)
 
-none_better : (naks id : ℕ) (theirs refused better missing bad : List ConfigOption) → (reply_with naks id theirs refused better missing bad).input ≡ ReceiveConfigureRequestGood → better ≡ []
+none_better : (naks id : ℕ) (theirs refused better missing bad : List ConfigOption) →
+    (reply_with naks id theirs refused better missing bad).input ≡ ReceiveConfigureRequestGood → better ≡ []
 none_better naks id theirs refused better missing bad h = grind (arith, nat_tests)
 
-none_missing : (naks id : ℕ) (theirs refused better missing bad : List ConfigOption) → (reply_with naks id theirs refused better missing bad).input ≡ ReceiveConfigureRequestGood → missing ≡ []
+none_missing : (naks id : ℕ) (theirs refused better missing bad : List ConfigOption) →
+    (reply_with naks id theirs refused better missing bad).input ≡ ReceiveConfigureRequestGood → missing ≡ []
 none_missing naks id theirs refused better missing bad h = grind (arith, nat_tests)
 
-pub accepted_passes : (t : Table) (own : List ConfigOption) (naks word id : ℕ) (theirs : List ConfigOption) → (reply_to t own naks word id theirs).input ≡ ReceiveConfigureRequestGood → Passes t own theirs word
+pub accepted_passes : (t : Table) (own : List ConfigOption) (naks word id : ℕ) (theirs : List ConfigOption) →
+    (reply_to t own naks word id theirs).input ≡ ReceiveConfigureRequestGood → Passes t own theirs word
 accepted_passes t own naks word id theirs e =
     let judge : ConfigOption → Verdict = λ o. t.judge own o word in
     let refused = rejected judge [] theirs in

@@ -5,10 +5,12 @@ use Rattle.ppp_auto.specs.declared.input.Input.{Input}
 use Rattle.ppp_auto.specs.Automaton.{Taken, taken_as, input_of, kind, does_row, after}
 use Rattle.ppp_auto.specs.EventTable.{cell_of}
 use Rattle.ppp_auto.specs.Packet.{Packet, Other}
+use Rattle.ppp_packet.specs.declared.code.Code.TheVariants.{ProtocolReject}
+use Rattle.ppp_packet.specs.Code.{code_number}
 use Rattle.ppp_duet.specs.Duet.{End, Marked, Duet, Setup, Side, A, B, Happening, Commands, SetsCap, RejectsProtocol, Delivers, Loses, Reboots, Event, does, does_if, start, takes, got_after, without, turned, delivers, at_first, at_side, happens}
 use Rattle.ppp_duet.specs.Span.{request_mark, answer_mark, requests, answers, least, span_of, widest, Narrow}
 use Rattle.ppp_duet.proofs.Packets.{RepliesIf, all_sent, sent_requests, sent_answers}
-use Rattle.ppp_duet.proofs.Queues.{answer_id, all_weaker, all_append, all_front, all_back, marks_append, marks_without, mark_asked, mark_answered, Rising, rising_within}
+use Rattle.ppp_duet.proofs.Queues.{answer_id, all_weaker, all_append, all_front, all_back, marks_append, marks_without, request_marked, answer_marked, Rising, rising_within, by_request, by_answer}
 use Rattle.ppp_duet.proofs.TakenLemmas.{replies}
 
 -- an ordinal is near the newest one
@@ -41,7 +43,7 @@ pub answer_near : (n : ℕ) (out : List Marked) (mark : ℕ) (p : Packet) (id : 
     span_of n out (record { mark = mark; packet = p } ∷ rest) ≤ widest → n ≤ mark + 255
 answer_near n out mark p id rest is h =
     let near = near_span n out (record { mark = mark; packet = p } ∷ rest) h in
-    mark_answered (IsNear n) mark p id is (all_front (IsNear n) (answer_mark mark p) (answers rest) near.answered)
+    (rw (answer_marked mark p, is) at near.answered).0
 
 -- What is sent: requests with the newest ordinal, and answers to requests that are near the other end's newest.
 record SentNear (n other : ℕ) (sent : List Marked) : Type 0 where
@@ -72,20 +74,20 @@ unfolding takes
 takes_near s e m word other h =
     let taken = kind s.table e.auto m.packet word in
     if_near s (record e { got = got_after e m.mark m.packet }) taken.input taken m.mark word other
-    (replies s.table e.auto m.packet word (λ _. IsNear other m.mark) (λ id is. mark_asked (IsNear other) m.mark m.packet id is h))
+    (replies s.table e.auto m.packet word (λ _. IsNear other m.mark) (λ id is. (rw (request_marked m.mark m.packet, is) at h).0))
 
 -- the first end became `x` and sent packets, and `rest` is left of the queue to it
 narrow_after : (a b x : End) (to_b rest sent : List Marked) → x.n ≤ a.n → Near a.n to_b rest → Near b.n rest to_b → SentNear x.n b.n sent →
     Narrow (record { a = x; b = b; to_a = rest; to_b = to_b ++ sent })
 narrow_after a b x to_b rest sent still mine theirs near = record {
   of_a = span_near x.n (to_b ++ sent) rest (record {
-    asked = marks_append (λ m. request_mark m.mark m.packet) (IsNear x.n) to_b sent (all_weaker (λ (m : ℕ) (k : IsNear a.n m). omega arith) (requests to_b) mine.asked)
+    asked = marks_append by_request (IsNear x.n) to_b sent (all_weaker (λ (m : ℕ) (k : IsNear a.n m). omega arith) (requests to_b) mine.asked)
         (all_weaker (λ (m : ℕ) (k : m ≡ x.n). omega arith) (requests sent) near.asked);
     answered = all_weaker (λ (m : ℕ) (k : IsNear a.n m). omega arith) (answers rest) mine.answered;
   });
   of_b = span_near b.n rest (to_b ++ sent) (record {
     asked = theirs.asked;
-    answered = marks_append (λ m. answer_mark m.mark m.packet) (IsNear b.n) to_b sent theirs.answered near.answered;
+    answered = marks_append by_answer (IsNear b.n) to_b sent theirs.answered near.answered;
   });
 }
 
@@ -113,19 +115,20 @@ narrow_first sa sb d (Commands e) word still_a still_b h =
     (does_near sa d.a input (taken_as d.a.auto (Some input) 0) 0 word d.b.n (λ p is. absurd (cc)))
 narrow_first sa sb d (SetsCap cap) word still_a still_b h = record { of_a = h.of_a; of_b = h.of_b }
 narrow_first sa sb d (RejectsProtocol id octets) word still_a still_b h =
-    narrow_after d.a d.b d.a d.to_b d.to_a (record { mark = 0; packet = Other 8 id octets } ∷ []) still_a (near_span d.a.n d.to_b d.to_a h.of_a) (near_span d.b.n d.to_a d.to_b h.of_b)
+    narrow_after d.a d.b d.a d.to_b d.to_a (record { mark = 0; packet = Other (code_number ProtocolReject) id octets } ∷ []) still_a (near_span d.a.n d.to_b d.to_a h.of_a) (near_span d.b.n d.to_a d.to_b h.of_b)
     (record { asked = tt; answered = tt })
 narrow_first sa sb d Delivers word still_a still_b h = narrow_delivered sa d.a d.b d.to_a d.to_b word still_a h
 narrow_first sa sb d (Loses place) word still_a still_b h =
     let mine = near_span d.a.n d.to_b d.to_a h.of_a in
     let theirs = near_span d.b.n d.to_a d.to_b h.of_b in
     record {
-      of_a = span_near d.a.n d.to_b (without place d.to_a) (record { asked = mine.asked; answered = marks_without (λ m. answer_mark m.mark m.packet) (IsNear d.a.n) place d.to_a mine.answered });
-      of_b = span_near d.b.n (without place d.to_a) d.to_b (record { asked = marks_without (λ m. request_mark m.mark m.packet) (IsNear d.b.n) place d.to_a theirs.asked; answered = theirs.answered });
+      of_a = span_near d.a.n d.to_b (without place d.to_a) (record { asked = mine.asked; answered = marks_without by_answer (IsNear d.a.n) place d.to_a mine.answered });
+      of_b = span_near d.b.n (without place d.to_a) d.to_b (record { asked = marks_without by_request (IsNear d.b.n) place d.to_a theirs.asked; answered = theirs.answered });
     }
 narrow_first sa sb d Reboots word still_a still_b h = record { of_a = omega arith; of_b = omega arith }
 
-narrow_at : (side : Side) (sa sb : Setup) (d : Duet) (what : Happening) (word : ℕ) → (at_side side sa sb d what word).a.n ≤ d.a.n → (at_side side sa sb d what word).b.n ≤ d.b.n →
+narrow_at : (side : Side) (sa sb : Setup) (d : Duet) (what : Happening) (word : ℕ) → (at_side side sa sb d what word).a.n ≤ d.a.n →
+    (at_side side sa sb d what word).b.n ≤ d.b.n →
     Narrow d → Narrow (at_side side sa sb d what word)
 narrow_at A sa sb d what word still_a still_b h = narrow_first sa sb d what word still_a still_b h
 narrow_at B sa sb d what word still_a still_b h =
@@ -133,7 +136,8 @@ narrow_at B sa sb d what word still_a still_b h =
     record { of_a = k.of_b; of_b = k.of_a }
 
 -- An event in which no ordinal rises keeps a state narrow, whatever the tables.
-pub narrow_still : (sa sb : Setup) (d : Duet) (e : Event) → (happens sa sb d e).a.n ≤ d.a.n → (happens sa sb d e).b.n ≤ d.b.n → Narrow d → Narrow (happens sa sb d e)
+pub narrow_still : (sa sb : Setup) (d : Duet) (e : Event) → (happens sa sb d e).a.n ≤ d.a.n → (happens sa sb d e).b.n ≤ d.b.n → Narrow d →
+    Narrow (happens sa sb d e)
 narrow_still sa sb d e still_a still_b h = narrow_at e.side sa sb d e.what e.word still_a still_b h
 
 pub narrow_start : (sa sb : Setup) → Narrow (start sa sb)

@@ -17,7 +17,8 @@ pub record Used (compat : List ConfigOption → List ConfigOption → Type 0) (t
 abbrev pub with_kept : Terms → (List ConfigOption → Type 0) → Terms
 with_kept t keeps = record { setup = t.setup; keeps = λ list. t.keeps list × keeps list; unknown = t.unknown; allows = t.allows }
 
-pub used_with : (compat : List ConfigOption → List ConfigOption → Type 0) (t : Terms) (keeps : List ConfigOption → Type 0) → AreLawful compat t → KeptBy t.setup.table keeps → Used compat (with_kept t keeps)
+pub used_with : (compat : List ConfigOption → List ConfigOption → Type 0) (t : Terms) (keeps : List ConfigOption → Type 0) → AreLawful compat t →
+    KeptBy t.setup.table keeps → Used compat (with_kept t keeps)
 used_with compat t keeps l k = record {
   kept = record {
     first_kept = λ word. (l.first_sent word, k.first_kept word);

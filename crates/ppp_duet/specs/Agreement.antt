@@ -19,8 +19,8 @@ pub record Agree (sends_a sends_b : List ConfigOption → Type 0) (allows_a allo
 
 -- Whatever happens, and whatever the first Identifiers: where each state so far is narrow, two Opened ends agree, for
 -- two values `a` and `b` of what answers the tables.
-abbrev pub Agreement : {V : Type 0} → (table : V → Table) (sendable : V → List ConfigOption → Type 0) (allows : V → List ConfigOption → List ConfigOption → Type 0)
-    (compat : List ConfigOption → List ConfigOption → Type 0) (a b : V) → Type 0
+abbrev pub Agreement : {V : Type 0} → (table : V → Table) (sendable : V → List ConfigOption → Type 0)
+    (allows : V → List ConfigOption → List ConfigOption → Type 0) (compat : List ConfigOption → List ConfigOption → Type 0) (a b : V) → Type 0
 Agreement table sendable allows compat a b =
     (first_a first_b : ℕ) (es : List Event) →
     let sa : Setup = record { table = table a; first = first_a } in

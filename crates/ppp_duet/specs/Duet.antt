@@ -1,6 +1,8 @@
 -- Two ends with tables of one type, and a queue of packets to each: one protocol on one link. Each Configure-Request
 -- in a queue carries its ordinal as a mark, each answer to it the same mark. No end reads a mark.
 use Rattle.std.specs.Prelude.{ℕ, zero, suc, ◌+◌, Bool, true, false, if◌then◌else◌, List, [], ◌∷◌, ◌++◌, Option, Some, None}
+use Rattle.ppp_packet.specs.declared.code.Code.TheVariants.{ProtocolReject}
+use Rattle.ppp_packet.specs.Code.{code_number}
 use Rattle.ppp_packet.specs.ConfigOption.{ConfigOption}
 use Rattle.ppp_auto.specs.declared.auto_state.AutoState.{AutoState}
 use Rattle.ppp_auto.specs.declared.auto_state.AutoState.TheVariants.{Initial, Starting}
@@ -153,7 +155,7 @@ reboots sa sb d word =
 unfoldable pub at_first : Setup → Setup → Duet → Happening → ℕ → Duet
 at_first sa sb d (Commands event) word = commands sa d event word
 at_first sa sb d (SetsCap cap) word = record d { a = record d.a { auto = record d.a.auto { cap = cap } } }
-at_first sa sb d (RejectsProtocol id octets) word = record d { to_b = d.to_b ++ record { mark = 0; packet = Other 8 id octets } ∷ [] }
+at_first sa sb d (RejectsProtocol id octets) word = record d { to_b = d.to_b ++ record { mark = 0; packet = Other (code_number ProtocolReject) id octets } ∷ [] }
 at_first sa sb d Delivers word = delivers sa d d.to_a word
 at_first sa sb d (Loses place) word = record d { to_a = without place d.to_a }
 at_first sa sb d Reboots word = reboots sa sb d word

@@ -18,6 +18,9 @@ end_beyond B d = d.a
 abbrev pub IsOpenedAt : Side → Duet → Type 0
 IsOpenedAt side d = (end_at side d).auto.state ≡ Opened
 
+abbrev pub IsOpenedBeyond : Side → Duet → Type 0
+IsOpenedBeyond side d = (end_beyond side d).auto.state ≡ Opened
+
 -- the end of the side is outside Opened in each state of the run
 abbrev pub StaysOut : Setup → Setup → Side → List Event → Duet → Type 0
 StaysOut sa sb side [] d = ¬ (IsOpenedAt side d)
@@ -25,8 +28,8 @@ StaysOut sa sb side (e ∷ es) d = ¬ (IsOpenedAt side d) × StaysOut sa sb side
 
 -- the other end is outside Opened in some state of the run
 abbrev pub IsOnceOut : Setup → Setup → Side → List Event → Duet → Type 0
-IsOnceOut sa sb side [] d = ¬ ((end_beyond side d).auto.state ≡ Opened)
-IsOnceOut sa sb side (e ∷ es) d = ¬ ((end_beyond side d).auto.state ≡ Opened) ⊎ IsOnceOut sa sb side es (happens sa sb d e)
+IsOnceOut sa sb side [] d = ¬ (IsOpenedBeyond side d)
+IsOnceOut sa sb side (e ∷ es) d = ¬ (IsOpenedBeyond side d) ⊎ IsOnceOut sa sb side es (happens sa sb d e)
 
 -- An end leaves Opened and, some events later, enters it again: from the state after it leaves to the state before it
 -- enters, there is one in which the other end isn't Opened.

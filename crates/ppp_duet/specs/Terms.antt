@@ -14,6 +14,12 @@ pub record Terms : Type 1 where
   -- the peer's lists that it allows, against its own
   pub allows : List ConfigOption → List ConfigOption → Type 0
 
+-- of what answers a table
+abbrev pub terms_of : {V : Type 0} → (table : V → Table) (sendable : V → List ConfigOption → Type 0) (unknown : V → ConfigOption → Type 0)
+    (allows : V → List ConfigOption → List ConfigOption → Type 0) → V → ℕ → Terms
+terms_of table sendable unknown allows v first =
+    record { setup = record { table = table v; first = first }; keeps = sendable v; unknown = unknown v; allows = allows v }
+
 -- its table is lawful, with lists that fit by `compat`
 abbrev pub AreLawful : (List ConfigOption → List ConfigOption → Type 0) → Terms → Type 0
 AreLawful compat t = Lawful t.setup.table t.keeps t.unknown t.allows compat

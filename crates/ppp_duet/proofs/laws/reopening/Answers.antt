@@ -1,4 +1,4 @@
-use Rattle.ppp_duet.specs.Terms.{Terms}
+use Rattle.ppp_duet.specs.Terms.{terms_of}
 use Rattle.ppp_duet.proofs.ReopeningLemmas.{reopening}
 use Rattle.ppp_duet.proofs.TermsLemmas.{used}
 use Rattle.ppp_duet.proofs.laws.reopening.Goals as goal
@@ -8,6 +8,6 @@ returns g c first_a first_b =
     let m = g.T.OptionTable in
     let a = c.args.a.now in
     let b = c.args.b.now in
-    let ta : Terms = record { setup = record { table = m.table a; first = first_a }; keeps = m.sendable a; unknown = m.unknown a; allows = m.allows a } in
-    let tb : Terms = record { setup = record { table = m.table b; first = first_b }; keeps = m.sendable b; unknown = m.unknown b; allows = m.allows b } in
+    let ta = terms_of m.table m.sendable m.unknown m.allows a first_a in
+    let tb = terms_of m.table m.sendable m.unknown m.allows b first_b in
     reopening m.compat ta tb (used m.compat ta (g.met.T.OptionTable.lawful a)) (used m.compat tb (g.met.T.OptionTable.lawful b))
