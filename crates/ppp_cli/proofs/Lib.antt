@@ -1,2 +1,3 @@
-pub mod Agreed
+pub mod AgreementLemmas
+pub mod AnswerLemmas
 pub mod Puts

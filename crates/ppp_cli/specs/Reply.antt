@@ -2,8 +2,11 @@
 use Rattle.std.specs.Prelude.{ℕ, Bool, ◌||◌, nat_lt, if◌then◌else◌, List, [], ◌∷◌, ◌++◌, length, Option, Some, None, Result, Ok, Err, codes}
 use Rattle.std.specs.Fmt.{decimal}
 use Rattle.std.specs.Str.{bytes_eq}
-use Rattle.ppp_cli.specs.declared.words.Command.{Command}
-use Rattle.ppp_cli.specs.declared.words.Command.TheVariants.{Replay}
+use Rattle.ppp_cli.specs.declared.command.Command.{Command}
+use Rattle.ppp_cli.specs.declared.command.Command.TheVariants.{Replay}
+use Rattle.ppp_cli.specs.declared.input.TheConstants.{MOST_OCTETS}
+use Rattle.ppp_cli.specs.declared.reply.Reply.{Reply as Reply'}
+use Rattle.ppp_cli.specs.declared.reply.TheConstants.{LINKS}
 use Rattle.ppp_cli.specs.declared.status.Status.{Status}
 use Rattle.ppp_cli.specs.declared.status.Status.TheVariants.{Ok as Fine, BadWords, TooLong, BadLine, Outstanding, NotBuilt}
 use Rattle.ppp_script.specs.declared.event.End.{End}
@@ -18,6 +21,10 @@ use Rattle.ppp_world.specs.Run.{Moment, run_of, report, Refused, refusal, before
 pub record Reply : Type 0 where
   pub status : Status
   pub octets : List ℕ
+
+-- a reply as the code keeps it
+abbrev pub reply_seen : Reply' → Reply
+reply_seen reply = record { status = reply.status; octets = reply.octets.items }
 
 abbrev pub says : Status → List ℕ → Reply
 says status octets = record { status = status; octets = octets }
@@ -71,18 +78,11 @@ reply_to_events (Err refused) = says (BadLine refused.line) (bad_line refused.li
 abbrev pub is_built : List ℕ → Bool
 is_built settings = bytes_eq settings (codes "version = 1") || bytes_eq settings (codes "version = 1\n")
 
--- one link is configured
-abbrev pub configured_links : ℕ
-configured_links = 1
-
 -- The size is looked at first, then the settings, then the script's lines, then its steps in order.
-abbrev pub most_octets : ℕ
-most_octets = 1048576
-
 abbrev pub reply_to_text : List ℕ → Reply
 reply_to_text text =
-    if nat_lt most_octets (length text) then says TooLong too_long_line
-    else if is_built (settings_in text) then reply_to_events (events_of configured_links (script_in text))
+    if nat_lt MOST_OCTETS (length text) then says TooLong too_long_line
+    else if is_built (settings_in text) then reply_to_events (events_of LINKS (script_in text))
     else says NotBuilt not_built_line
 
 -- The reply to words and to the input's octets: None where a source that doesn't tell them decides it.

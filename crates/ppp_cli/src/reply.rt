@@ -1,8 +1,9 @@
-//! What is replied to an input.
+//! What is replied to a text.
 
 ghost use Rattle.std.specs.Prelude.{◌≡◌, ◌≤◌, ◌++◌, length, IfOk, string_bytes, bytes_eq};
-ghost use Rattle.ppp_cli.specs.Reply.{bad_line, is_built, reply_to_events, reply_to_text, says, not_built_line};
-ghost use Rattle.ppp_cli.specs.Replied.{told, IsPlain};
+ghost use Rattle.ppp_cli.specs.Reply.{bad_line, is_built, not_built_line, reply_seen, reply_to_events, reply_to_text, says};
+ghost use Rattle.ppp_cli.specs.Status.{IsOfText};
+ghost use Rattle.ppp_cli.specs.declared.input.TheConstants.{MOST_OCTETS};
 ghost use Rattle.ppp_cli.specs.declared.status.Status.TheVariants.{BadLine, NotBuilt};
 ghost use Rattle.std.specs.Prelude.{Ok};
 
@@ -24,17 +25,17 @@ pub(crate) struct Reply {
 }
 
 /// Replies to the text of an input that isn't too long.
-pub(crate) fn answer(alloc: Global, text: &[u8]) -> Result<Reply, Memory>
-    requires { length text.now ≤ 1048576 }
-    ensures reply { IfOk result (λ reply. told reply ≡ reply_to_text text.now) }
-    ensures plain { IfOk result (λ reply. IsPlain reply.status) }
+pub(crate) fn reply_to_text(alloc: Global, text: &[u8]) -> Result<Reply, Memory>
+    requires { length text.now ≤ MOST_OCTETS }
+    ensures reply { IfOk result (λ reply. reply_seen reply ≡ reply_to_text text.now) }
+    ensures of_text { IfOk result (λ reply. IsOfText reply.status) }
 {
     let parts = part_input(text);
     if !is_built(parts.settings) {
         return refuse_settings(alloc);
     }
     match read_script(alloc, parts.script, LINKS) {
-        Ok(script) => answer_script(alloc, &script),
+        Ok(script) => reply_to_script(alloc, &script),
         Err(ScriptFault::Refused { line, why }) => refuse_line(alloc, line, why),
         Err(ScriptFault::Memory) => Err(Memory),
     }
@@ -49,8 +50,8 @@ fn is_built(settings: &[u8]) -> bool
 
 /// Refuses settings that aren't built yet.
 fn refuse_settings(alloc: Global) -> Result<Reply, Memory>
-    ensures reply { IfOk result (λ reply. told reply ≡ says NotBuilt not_built_line) }
-    ensures plain { IfOk result (λ reply. IsPlain reply.status) }
+    ensures reply { IfOk result (λ reply. reply_seen reply ≡ says NotBuilt not_built_line) }
+    ensures of_text { IfOk result (λ reply. IsOfText reply.status) }
 {
     Ok(Reply {
         status: Status::NotBuilt,
@@ -60,8 +61,8 @@ fn refuse_settings(alloc: Global) -> Result<Reply, Memory>
 
 /// Refuses a line of the script.
 fn refuse_line(alloc: Global, line: u32, why: LineWhy) -> Result<Reply, Memory>
-    ensures reply { IfOk result (λ reply. told reply ≡ says (BadLine line) (bad_line line why)) }
-    ensures plain { IfOk result (λ reply. IsPlain reply.status) }
+    ensures reply { IfOk result (λ reply. reply_seen reply ≡ says (BadLine line) (bad_line line why)) }
+    ensures of_text { IfOk result (λ reply. IsOfText reply.status) }
 {
     let mut octets = Vec::new(alloc);
     put_bad_line(&mut octets, alloc, line, why)?;
@@ -73,9 +74,9 @@ fn refuse_line(alloc: Global, line: u32, why: LineWhy) -> Result<Reply, Memory>
 
 /// Replays a script, and replies with its report; where a step is refused the report is that of the steps before it, and
 /// the line of the refusal follows.
-fn answer_script(alloc: Global, script: &Script) -> Result<Reply, Memory>
-    ensures reply { IfOk result (λ reply. told reply ≡ reply_to_events (Ok script.now)) }
-    ensures plain { IfOk result (λ reply. IsPlain reply.status) }
+fn reply_to_script(alloc: Global, script: &Script) -> Result<Reply, Memory>
+    ensures reply { IfOk result (λ reply. reply_seen reply ≡ reply_to_events (Ok script.now)) }
+    ensures of_text { IfOk result (λ reply. IsOfText reply.status) }
 {
     let replayed = replay(alloc, script)?;
     let mut octets = replayed.report;

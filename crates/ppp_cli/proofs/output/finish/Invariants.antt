@@ -1,6 +1,6 @@
 use Rattle.std.proofs.Common.{length, take, ◌-◌, ◌≤◌}
-use Rattle.ppp_io.specs.Told.{PutsOn}
-use Rattle.ppp_cli.proofs.writing.finish.Given as goal
+use Rattle.ppp_io.specs.Account.{PutsOn}
+use Rattle.ppp_cli.proofs.output.finish.Given as goal
 
 -- what was written so far is the front of the octets
 abbrev pub invariant-writes : goal.invariant-writes

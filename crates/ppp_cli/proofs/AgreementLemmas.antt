@@ -1,10 +1,10 @@
 -- In every state of the run that an input is replayed as two Opened ends agree.
 use Rattle.std.proofs.Common.{List, ℕ}
 use Rattle.std.specs.Prelude.{Option, Some, None, Result, Ok, Err}
-use Rattle.ppp_cli.specs.Answers.{AgreesIfRead, AgreesIfReplayed}
-use Rattle.ppp_cli.specs.Reply.{configured_links}
-use Rattle.ppp_cli.specs.declared.words.Command.{Command}
-use Rattle.ppp_cli.specs.declared.words.Command.TheVariants.{Replay}
+use Rattle.ppp_cli.specs.Agreement.{AgreesIfRead, AgreesIfReplayed}
+use Rattle.ppp_cli.specs.declared.reply.TheConstants.{LINKS}
+use Rattle.ppp_cli.specs.declared.command.Command.{Command}
+use Rattle.ppp_cli.specs.declared.command.Command.TheVariants.{Replay}
 use Rattle.ppp_script.specs.Lines.{script_in}
 use Rattle.ppp_script.specs.Script.{Refusal, events_of}
 use Rattle.ppp_script.specs.declared.event.Event.{Event}
@@ -18,4 +18,4 @@ agrees_if_read (Err refused) = tt
 pub agrees_if_replayed : (command : Option Command) (told : Option (List ℕ)) → AgreesIfReplayed command told
 agrees_if_replayed None told = tt
 agrees_if_replayed (Some Replay) None = tt
-agrees_if_replayed (Some Replay) (Some text) = agrees_if_read (events_of configured_links (script_in text))
+agrees_if_replayed (Some Replay) (Some text) = agrees_if_read (events_of LINKS (script_in text))

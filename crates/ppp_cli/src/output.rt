@@ -1,13 +1,14 @@
-//! Writing the output whole.
+//! The output, written whole.
 
-ghost use Rattle.ppp_cli.specs.Writing.{Finishes};
+ghost use Rattle.ppp_cli.specs.Output.{Finishes};
 
 use crate::status::Status;
 use ppp_io::{Sink, Wrote};
 
 /// Writes these octets and answers the status, or WriteFault where a write fails.
 pub(crate) fn finish<K: Sink>(output: &mut K, status: Status, octets: &[u8]) -> Status
-    ensures { Finishes (K.held output.old) (K.held output.new) (K.faults output.old) (K.faults output.new) status octets.now result }
+    ensures { Finishes (K.held output.old) (K.held output.new)
+        (K.faults output.old) (K.faults output.new) status octets.now result }
 {
     let mut at = 0;
     'writes: while at < octets.len() {

@@ -1,8 +1,8 @@
 use Rattle.std.proofs.Common.{arith, take, drop, inr, length-drop, append-nil, refl, []}
 use Rattle.std.proofs.Math.Seq.{take-add}
 use Rattle.std.proofs.lemmas.List.{take-append-drop}
-use Rattle.ppp_io.proofs.InTurn.{PutsOn-append}
-use Rattle.ppp_cli.proofs.writing.finish.Goals as goal
+use Rattle.ppp_io.proofs.AccountLemmas.{PutsOn-append}
+use Rattle.ppp_cli.proofs.output.finish.Goals as goal
 
 pub writes-preserved : goal.writes-preserved
 writes-preserved g c =

@@ -1,7 +1,7 @@
--- What writing comes to.
+-- What writing an output comes to.
 use Rattle.std.specs.Prelude.{◌≡◌, ℕ, ◌≤◌, ◌⊎◌, List, ◌++◌, Option}
-use Rattle.ppp_io.specs.Causes.{Rose}
-use Rattle.ppp_io.specs.Told.{PutsOn}
+use Rattle.ppp_io.specs.Account.{PutsOn}
+use Rattle.ppp_io.specs.Fault.{Rose}
 use Rattle.ppp_cli.specs.declared.status.Status.{Status}
 use Rattle.ppp_cli.specs.declared.status.Status.TheVariants.{WriteFault}
 
@@ -12,4 +12,5 @@ PutsFront old new octets = (front : List ℕ) × (rest : List ℕ) × (front ++ 
 -- all is written and the status answered; or a write failed and a front is written
 abbrev pub Finishes : Option (List ℕ) → Option (List ℕ) → ℕ → ℕ → Status → List ℕ → Status → Type 0
 Finishes old new before now status octets result =
-    ((result ≡ status) × PutsOn old new octets × (before ≤ now)) ⊎ ((result ≡ WriteFault) × PutsFront old new octets × Rose before now × (before ≤ now))
+    ((result ≡ status) × PutsOn old new octets × (before ≤ now))
+    ⊎ ((result ≡ WriteFault) × PutsFront old new octets × Rose before now × (before ≤ now))
