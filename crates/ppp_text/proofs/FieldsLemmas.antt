@@ -2,7 +2,10 @@
 use Rattle.std.proofs.Common.{◌≡◌, ◌≢◌, ℕ, List, [], ◌∷◌, length, refl, ap, ◌∙◌, arith}
 use Rattle.std.specs.Prelude.{◌==◌, All, Option, Some, None, Bool, true, false, not, is_some, IsTrue, ◌↔◌}
 use denote.Ref.{Bor}
-use Rattle.std.proofs.lemmas.List.Elements.{All-head, All-tail}
+use Rattle.std.proofs.lemmas.List.Elements.{All-head, All-tail, All-weaker}
+use Rattle.std.proofs.lemmas.List.Sums.{AllPass-from_list_all}
+use Rattle.std.proofs.lemmas.Bool.{eqb-false}
+use Rattle.std.specs.List.{list_all}
 use Rattle.std.proofs.lemmas.List.Splits.{slice_split_at, slice_split_none, length-slice_split, join_with_byte-slice_split}
 use Rattle.ppp_text.specs.Fields.{fields_of, line_with, fields_behind}
 use Rattle.ppp_text.specs.Split.{IsSplit}
@@ -38,3 +41,10 @@ fields_of-line_with field [] others = fields_of-last field (All-head (λ part. A
 fields_of-line_with field (next ∷ more) others =
     fields_of-first _ field (line_with (next ∷ more)) (record { text_is = refl; first = All-head (λ part. All (λ x. x ≢ 32) part) field (next ∷ more) others })
     ∙ ap (λ fields. field ∷ fields) (fields_of-line_with next more (All-tail (λ part. All (λ x. x ≢ 32) part) field (next ∷ more) others))
+
+-- a literal without a space: the test computes
+pub spaceless : (field : List ℕ) → list_all (λ x. not (x == 32)) field ≡ true → All (λ x. x ≢ 32) field
+spaceless field test = All-weaker (λ x. not (x == 32) ≡ true) (λ x. x ≢ 32) (λ x other. eqb-false x 32 (not-true _ other)) field (AllPass-from_list_all (λ x. not (x == 32)) field test) where
+  not-true : (b : Bool) → not b ≡ true → b ≡ false
+  not-true true is = absurd (cc)
+  not-true false is = refl

@@ -1,16 +1,17 @@
 -- Facts on decimal numbers.
-use Rattle.std.proofs.Common.{rules, ◌≡◌, ℕ, zero, suc, ◌+◌, ◌-◌, ◌*◌, ◌^◌, ◌<◌, ◌≤◌, Bool, true, false, cond, List, [], ◌∷◌, length, drop, get_or, refl, sym, ◌∙◌, ap, arith, add-one, drop-cons}
-use Rattle.std.specs.Prelude.{Some, None, ◌==◌, ◌&&◌, not}
+use Rattle.std.proofs.Common.{rules, ◌≡◌, ◌≢◌, ℕ, zero, suc, ◌+◌, ◌-◌, ◌*◌, ◌^◌, ◌<◌, ◌≤◌, Bool, true, false, cond, List, [], ◌∷◌, length, drop, get_or, refl, sym, ◌∙◌, ap, arith, add-one, drop-cons}
+use Rattle.std.specs.Prelude.{Option, All, nat_le, Some, None, ◌==◌, ◌&&◌, not}
 use Rattle.std.specs.List.{list_all}
 use Rattle.std.specs.Char.{is_ascii_digit, digit_value}
 use Rattle.std.specs.Fmt.{decimal}
 use Rattle.std.specs.Str.Parse.{digits_value, digits_value_after}
-use Rattle.std.proofs.lemmas.Bool.{ne_eqb}
+use Rattle.std.proofs.lemmas.Bool.{le-leb, leb-true, ne_eqb}
 use Rattle.std.proofs.lemmas.Bool.Decides.{nat_tests}
 use Rattle.std.proofs.lemmas.Fmt.{digits_decimal, digits_value-decimal, decimal-digits_value, decimal_digit, decimal_nonempty, first_decimal}
 use Rattle.std.proofs.lemmas.List.Sums.{AllPass-from_list_all}
+use Rattle.std.proofs.lemmas.Grind.{common_steps}
 use Rattle.std.proofs.lemmas.Str.Parse.{IsNumeralModel, numerals_by_value}
-use Rattle.ppp_text.specs.Numbers.{has_leading_zero, is_number, number_of}
+use Rattle.ppp_text.specs.Numbers.{has_leading_zero, is_number, number_of, within, number_in}
 
 abbrev AllDigits : List ℕ → Type 0
 AllDigits field = list_all is_ascii_digit field ≡ true
@@ -83,3 +84,28 @@ unfolding number_of
 number_of-decimal n fits =
     let number : IsNumber (decimal n) = record { all = digits_decimal own n fits; some = decimal_nonempty n fits; leading = first_zero n fits } in
     rw (is_number-IsNumber (decimal n) number, digits_value-decimal own n fits) refl
+
+pub number_in-decimal : (least most n : ℕ) → least ≤ n → n ≤ most → n < 2 ^ 64 → number_in least most (decimal n) ≡ Some n
+unfolding number_in
+number_in-decimal least most n low high fits = rw (number_of-decimal n fits, le-leb least n low, le-leb n most high) refl
+
+pub decimal-number_in : (least most n : ℕ) (field : List ℕ) → most < 2 ^ 64 → number_in least most field ≡ Some n → field ≡ decimal n
+unfolding number_in
+decimal-number_in least most n field fits = by_found (number_of field) refl where
+  by_test : (m : ℕ) (t : Bool) → (nat_le least m && nat_le m most) ≡ t → number_of field ≡ Some m → cond t (Some m) None ≡ Some n → field ≡ decimal n
+  by_test m true test found is =
+      let same : m ≡ n = cc in
+      let high = leb-true m most (both (nat_le least m) (nat_le m most) test).1 in
+      decimal-number_of field m (omega arith) found ∙ ap decimal same
+  by_test m false test found is = absurd (cc)
+
+  by_found : (found : Option ℕ) → number_of field ≡ found → within least most found ≡ Some n → field ≡ decimal n
+  by_found None found is = absurd (cc)
+  by_found (Some m) found is = by_test m _ refl found is
+
+-- no octet of a number is this one, which is no digit
+pub lacks-decimal : (octet n : ℕ) → n < 2 ^ 64 → octet < 48 → All (λ x. x ≢ octet) (decimal n)
+lacks-decimal octet n fits other = λ i d in_range.
+    let digit = digit_at (decimal n) i (digits_decimal own n fits) in_range in
+    let same : get_or (decimal n) i d ≡ get_or (decimal n) i 0 = grind (arith, common_steps) in
+    λ is. omega (arith, same, is, digit.0)
