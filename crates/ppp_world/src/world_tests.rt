@@ -87,6 +87,11 @@ fn replays_up_to_the_refused_step(rt: HostRuntime) {
         sent: 257,
         oldest: 1,
     };
-    assert_eq!(rt; replayed.refused, Some(Refusal { step: 514, fault }));
+    let refusal = Refusal { step: 514, fault };
+    assert_eq!(rt; replayed.refused, Some(refusal));
+    assert_eq!(rt;
+        refusal.to_string(rt.alloc()).expect(&rt, "memory").as_str(),
+        "outstanding step 514 end a link 1 lcp sent 257 oldest 1"
+    );
     assert!(rt; replayed.report.is_empty());
 }
