@@ -1,27 +1,99 @@
--- What holds of each packet of a queue, and of the marks of its requests.
-use Rattle.std.proofs.Common.{◌≡◌, ℕ, zero, suc, ◌+◌, ◌≤◌, List, [], ◌∷◌, ◌++◌, arith}
+-- Packets that are under way, and their marks.
+use Rattle.std.proofs.Common.{◌≡◌, ℕ, zero, suc, ◌≤◌, List, [], ◌∷◌, ◌++◌, Option, Some, None, refl, arith}
+use Rattle.std.specs.List.{AllByRecursion, flat_map}
+use Rattle.std.proofs.lemmas.Grind.{flat_map-append}
 use Rattle.ppp_packet.specs.ConfigOption.{ConfigOption}
-use Rattle.ppp_duet.specs.Duet.{Marked, requests, request_mark, answers, least, without, span_of, widest}
 use Rattle.ppp_auto.specs.Packet.{Packet, Request, Ack, Nak, Reject, Other}
+use Rattle.ppp_duet.specs.Duet.{Marked, mark_of, without}
+use Rattle.ppp_duet.specs.Span.{request_mark, answer_mark}
 
--- it holds of each packet with its mark
-abbrev pub Every : (ℕ → Packet → Type 0) → List Marked → Type 0
-Every P [] = Unit {0}
-Every P (m ∷ ms) = P m.mark m.packet × Every P ms
+-- the Identifier of a request, of an Ack, and of the request that an answer answers
+abbrev pub request_id : Packet → Option ℕ
+request_id (Request id options) = Some id
+request_id p = None
 
-pub every_weaker : {P Q : ℕ → Packet → Type 0} → ((mark : ℕ) (p : Packet) → P mark p → Q mark p) → (ms : List Marked) → Every P ms → Every Q ms
-every_weaker step [] h = tt
-every_weaker step (m ∷ ms) h = (step m.mark m.packet h.0, every_weaker step ms h.1)
+abbrev pub ack_id : Packet → Option ℕ
+ack_id (Ack id options) = Some id
+ack_id p = None
 
-pub every_append : (P : ℕ → Packet → Type 0) (ms ns : List Marked) → Every P ms → Every P ns → Every P (ms ++ ns)
-every_append P [] ns h k = k
-every_append P (m ∷ ms) ns h k = (h.0, every_append P ms ns h.1 k)
+abbrev pub answer_id : Packet → Option ℕ
+answer_id (Request id options) = None
+answer_id (Other code id octets) = None
+answer_id (Ack id options) = Some id
+answer_id (Nak id options) = Some id
+answer_id (Reject id options) = Some id
 
-pub every_without : (P : ℕ → Packet → Type 0) (place : ℕ) (ms : List Marked) → Every P ms → Every P (without place ms)
-every_without P place [] h = tt
-every_without P zero (m ∷ ms) h = h
-every_without P (suc zero) (m ∷ ms) h = h.1
-every_without P (suc (suc place)) (m ∷ ms) h = (h.0, every_without P (suc place) ms h.1)
+abbrev pub options_in : Packet → List ConfigOption
+options_in (Request id options) = options
+options_in p = []
+
+pub ack_answers : (p : Packet) (id : ℕ) → ack_id p ≡ Some id → answer_id p ≡ Some id
+ack_answers p id is = grind arith
+
+pub answer_mark_of : (n mark id : ℕ) (p : Packet) → answer_id p ≡ Some id → mark_of n mark p ≡ mark
+answer_mark_of n mark id p is = grind arith
+
+pub all_weaker : {X : Type 0} {P Q : X → Type 0} → ((x : X) → P x → Q x) → (xs : List X) → AllByRecursion P xs → AllByRecursion Q xs
+all_weaker step [] h = tt
+all_weaker step (x ∷ xs) h = (step x h.0, all_weaker step xs h.1)
+
+pub all_append : {X : Type 0} (P : X → Type 0) (xs ys : List X) → AllByRecursion P xs → AllByRecursion P ys → AllByRecursion P (xs ++ ys)
+all_append P [] ys h k = k
+all_append P (x ∷ xs) ys h k = (h.0, all_append P xs ys h.1 k)
+
+pub all_front : {X : Type 0} (P : X → Type 0) (xs ys : List X) → AllByRecursion P (xs ++ ys) → AllByRecursion P xs
+all_front P [] ys h = tt
+all_front P (x ∷ xs) ys h = (h.0, all_front P xs ys h.1)
+
+pub all_back : {X : Type 0} (P : X → Type 0) (xs ys : List X) → AllByRecursion P (xs ++ ys) → AllByRecursion P ys
+all_back P [] ys h = h
+all_back P (x ∷ xs) ys h = all_back P xs ys h.1
+
+pub all_without : {X : Type 0} (P : X → Type 0) (place : ℕ) (xs : List X) → AllByRecursion P xs → AllByRecursion P (without place xs)
+all_without P place [] h = tt
+all_without P zero (x ∷ xs) h = h
+all_without P (suc zero) (x ∷ xs) h = h.1
+all_without P (suc (suc place)) (x ∷ xs) h = (h.0, all_without P (suc place) xs h.1)
+
+-- the mark of a request, and of an answer
+abbrev pub by_request : Marked → List ℕ
+by_request m = request_mark m.mark m.packet
+
+abbrev pub by_answer : Marked → List ℕ
+by_answer m = answer_mark m.mark m.packet
+
+-- the mark, if the packet is of that kind
+abbrev pub mark_if : ℕ → Option ℕ → List ℕ
+mark_if mark None = []
+mark_if mark (Some id) = mark ∷ []
+
+pub request_marked : (mark : ℕ) (p : Packet) → request_mark mark p ≡ mark_if mark (request_id p)
+request_marked mark p = grind arith
+
+pub answer_marked : (mark : ℕ) (p : Packet) → answer_mark mark p ≡ mark_if mark (answer_id p)
+answer_marked mark p = grind arith
+
+pub mark_all : (P : ℕ → Type 0) (mark : ℕ) (o : Option ℕ) → ((id : ℕ) → o ≡ Some id → P mark) → AllByRecursion P (mark_if mark o)
+mark_all P mark None h = tt
+mark_all P mark (Some id) h = (h id refl, tt)
+
+-- the marks of a queue's packets
+pub marks_all : (f : Marked → List ℕ) (P : ℕ → Type 0) {Q : Marked → Type 0} → ((m : Marked) → Q m → AllByRecursion P (f m)) →
+    (ms : List Marked) → AllByRecursion Q ms → AllByRecursion P (flat_map f ms)
+marks_all f P each [] h = tt
+marks_all f P each (m ∷ ms) h = all_append P (f m) (flat_map f ms) (each m h.0) (marks_all f P each ms h.1)
+
+pub marks_append : (f : Marked → List ℕ) (P : ℕ → Type 0) (ms ns : List Marked) → AllByRecursion P (flat_map f ms) → AllByRecursion P (flat_map f ns) →
+    AllByRecursion P (flat_map f (ms ++ ns))
+marks_append f P ms ns h k = rw (flat_map-append f ms ns) (all_append P (flat_map f ms) (flat_map f ns) h k)
+
+pub marks_without : (f : Marked → List ℕ) (P : ℕ → Type 0) (place : ℕ) (ms : List Marked) → AllByRecursion P (flat_map f ms) →
+    AllByRecursion P (flat_map f (without place ms))
+marks_without f P place [] h = tt
+marks_without f P zero (m ∷ ms) h = h
+marks_without f P (suc zero) (m ∷ ms) h = all_back P (f m) (flat_map f ms) h
+marks_without f P (suc (suc place)) (m ∷ ms) h =
+    all_append P (f m) (flat_map f (without (suc place) ms)) (all_front P (f m) (flat_map f ms) h) (marks_without f P (suc place) ms (all_back P (f m) (flat_map f ms) h))
 
 -- the numbers never fall, from the lowest up to the highest
 abbrev pub Rising : ℕ → ℕ → List ℕ → Type 0
@@ -36,68 +108,36 @@ pub rising_from : (lower low high : ℕ) (ms : List ℕ) → lower ≤ low → R
 rising_from lower low high [] e h = omega arith
 rising_from lower low high (m ∷ ms) e h = (omega (arith, h.0), h.1)
 
--- the highest rises
-pub rising_to : (low high higher : ℕ) (ms : List ℕ) → high ≤ higher → Rising low high ms → Rising low higher ms
-rising_to low high higher [] e h = omega arith
-rising_to low high higher (m ∷ ms) e h = (h.0, rising_to m high higher ms e h.1)
+-- without the front
+pub rising_back : (low high : ℕ) (ms ns : List ℕ) → Rising low high (ms ++ ns) → Rising low high ns
+rising_back low high [] ns h = h
+rising_back low high (m ∷ ms) ns h = rising_back low high ms ns (rising_from low m high (ms ++ ns) h.0 h.1)
 
--- a packet that is no request, or the first request, is taken off
-pub rising_rest : (mark : ℕ) (p : Packet) (low high : ℕ) (ms : List ℕ) → Rising low high (request_mark mark p ++ ms) → Rising low high ms
-rising_rest mark (Request id options) low high ms h = rising_from low mark high ms h.0 h.1
-rising_rest mark (Ack id options) low high ms h = h
-rising_rest mark (Nak id options) low high ms h = h
-rising_rest mark (Reject id options) low high ms h = h
-rising_rest mark (Other code id octets) low high ms h = h
+-- with another back
+pub rising_front : (low high : ℕ) (ms ns other : List ℕ) → ((from : ℕ) → Rising from high ns → Rising from high other) → Rising low high (ms ++ ns) →
+    Rising low high (ms ++ other)
+rising_front low high [] ns other step h = step low h
+rising_front low high (m ∷ ms) ns other step h = (h.0, rising_front m high ms ns other step h.1)
 
--- a packet is put in front
-rising_front : (mark : ℕ) (p : Packet) (low high : ℕ) (ms ns : List ℕ) → ((from : ℕ) → Rising from high ms → Rising from high ns) → Rising low high (request_mark mark p ++ ms) → Rising low high (request_mark mark p ++ ns)
-rising_front mark (Request id options) low high ms ns step h = (h.0, step mark h.1)
-rising_front mark (Ack id options) low high ms ns step h = step low h
-rising_front mark (Nak id options) low high ms ns step h = step low h
-rising_front mark (Reject id options) low high ms ns step h = step low h
-rising_front mark (Other code id octets) low high ms ns step h = step low h
+rising_append : (low mid high : ℕ) (ms ns : List ℕ) → Rising low mid ms → Rising mid high ns → Rising low high (ms ++ ns)
+rising_append low mid high [] ns h k = rising_from low mid high ns h k
+rising_append low mid high (m ∷ ms) ns h k = (h.0, rising_append m mid high ms ns h.1 k)
 
-pub rising_without : (place : ℕ) (ms : List Marked) (low high : ℕ) → Rising low high (requests ms) → Rising low high (requests (without place ms))
-rising_without place [] low high h = h
-rising_without zero (m ∷ ms) low high h = h
-rising_without (suc zero) (m ∷ ms) low high h = rising_rest m.mark m.packet low high (requests ms) h
-rising_without (suc (suc place)) (m ∷ ms) low high h =
-    rising_front m.mark m.packet low high (requests ms) (requests (without (suc place) ms))
-    (λ from. rising_without (suc place) ms from high) h
+rising_same : (n : ℕ) (ms : List ℕ) → AllByRecursion (λ m. m ≡ n) ms → Rising n n ms
+rising_same n [] h = omega arith
+rising_same n (m ∷ ms) h = (omega (arith, h.0), rising_from m n n ms (omega (arith, h.0)) (rising_same n ms h.1))
 
--- each request has that mark
-abbrev pub MarkedBy : ℕ → ℕ → Packet → Type 0
-MarkedBy n mark (Request id options) = mark ≡ n
-MarkedBy n mark (Ack id options) = Unit {0}
-MarkedBy n mark (Nak id options) = Unit {0}
-MarkedBy n mark (Reject id options) = Unit {0}
-MarkedBy n mark (Other code id octets) = Unit {0}
+pub rising_without : (f : Marked → List ℕ) (place : ℕ) (ms : List Marked) (low high : ℕ) → Rising low high (flat_map f ms) →
+    Rising low high (flat_map f (without place ms))
+rising_without f place [] low high h = h
+rising_without f zero (m ∷ ms) low high h = h
+rising_without f (suc zero) (m ∷ ms) low high h = rising_back low high (f m) (flat_map f ms) h
+rising_without f (suc (suc place)) (m ∷ ms) low high h =
+    rising_front low high (f m) (flat_map f ms) (flat_map f (without (suc place) ms)) (λ from. rising_without f (suc place) ms from high) h
 
-rising_newest_at : (n mark : ℕ) (p : Packet) (ms : List ℕ) → MarkedBy n mark p → Rising n n ms → Rising n n (request_mark mark p ++ ms)
-rising_newest_at n mark (Request id options) ms h k = (omega arith, rising_from mark n n ms (omega arith) k)
-rising_newest_at n mark (Ack id options) ms h k = k
-rising_newest_at n mark (Nak id options) ms h k = k
-rising_newest_at n mark (Reject id options) ms h k = k
-rising_newest_at n mark (Other code id octets) ms h k = k
-
-rising_newest : (n : ℕ) (ms : List Marked) → Every (MarkedBy n) ms → Rising n n (requests ms)
-rising_newest n [] h = omega arith
-rising_newest n (m ∷ ms) h = rising_newest_at n m.mark m.packet (requests ms) h.0 (rising_newest n ms h.1)
-
--- the newest requests go behind the others
-pub rising_append : (low high : ℕ) (ms ns : List Marked) → Rising low high (requests ms) → Every (MarkedBy high) ns → Rising low high (requests (ms ++ ns))
-rising_append low high [] ns h k = rising_from low high high (requests ns) h (rising_newest high ns k)
-rising_append low high (m ∷ ms) ns h k =
-    rising_front m.mark m.packet low high (requests ms) (requests (ms ++ ns))
-    (λ from more. rising_append from high ms ns more k) h
-
-least_below : (n : ℕ) (xs : List ℕ) (m : ℕ) (ys : List ℕ) → least n (xs ++ m ∷ ys) ≤ m
-least_below n [] m ys = omega arith
-least_below n (x ∷ xs) m ys = let below : least n (xs ++ m ∷ ys) ≤ m = least_below n xs m ys in omega arith
-
--- where the span is narrow, the answer at the front is near
-pub ack_near : (n : ℕ) (out : List Marked) (mark id : ℕ) (options : List ConfigOption) (rest : List Marked) →
-    span_of n out (record { mark = mark; packet = Ack id options } ∷ rest) ≤ widest → n ≤ mark + 255
-ack_near n out mark id options rest h =
-    let below : least n (requests out ++ mark ∷ answers rest) ≤ mark = least_below n (requests out) mark (answers rest) in
-    omega arith
+-- the newest go behind the others, and may be newer
+pub rising_newest : (f : Marked → List ℕ) (low mid high : ℕ) (ms ns : List Marked) → mid ≤ high → Rising low mid (flat_map f ms) →
+    AllByRecursion (λ m. m ≡ high) (flat_map f ns) →
+    Rising low high (flat_map f (ms ++ ns))
+rising_newest f low mid high ms ns e h k =
+    rw (flat_map-append f ms ns) (rising_append low mid high (flat_map f ms) (flat_map f ns) h (rising_from mid high high (flat_map f ns) e (rising_same high (flat_map f ns) k)))

@@ -2,12 +2,14 @@
 use Rattle.std.proofs.Common.{◌≡◌, ℕ, zero, suc, Bool, false, ◌&&◌, ◌==◌, if◌then◌else◌, List, [], ◌∷◌, ◌++◌, length, None, refl, arith}
 use Rattle.std.specs.List.{list_any}
 use Rattle.ppp_packet.specs.ConfigOption.{ConfigOption}
-use Rattle.ppp_auto.specs.declared.auto_state.AutoState.TheVariants.{AckSent, Opened}
+use Rattle.ppp_auto.specs.declared.auto_state.AutoState.{AutoState}
+use Rattle.ppp_auto.specs.declared.auto_state.AutoState.TheVariants.{ReqSent, AckSent, Opened}
 use Rattle.ppp_auto.specs.declared.auto_event.AutoEvent.TheVariants.{Up, Down, AdminOpen, Timeout}
 use Rattle.ppp_auto.specs.declared.verdict.Verdict.{Verdict}
 use Rattle.ppp_auto.specs.declared.verdict.Verdict.TheVariants.{Good, Bad, Unknown}
 use Rattle.ppp_auto.specs.Automaton.{four_octets, does_row}
-use Rattle.ppp_duet.specs.Duet.{Duet, Setup, Side, A, B, Happening, Commands, Delivers, Event, at_first, does, takes, start, run, span_of, Narrow}
+use Rattle.ppp_duet.specs.Duet.{Duet, Setup, Side, A, B, Happening, Commands, Delivers, Event, at_first, does, takes, start, run}
+use Rattle.ppp_duet.specs.Span.{span_of, Narrow}
 use Rattle.ppp_auto.specs.Reply.{same_option}
 use Rattle.ppp_auto.specs.OptionTable.{Table}
 
@@ -49,29 +51,40 @@ both_open =
 abbrev after_events : List Event → Duet
 after_events es = run setup setup es (start setup setup)
 
+-- the states that a run leads to
+abbrev states : List Event → AutoState × AutoState
+states es = ((after_events es).a.auto.state, (after_events es).b.auto.state)
+
 abbrev first_run : List Event
 first_run = both_open ++ event B Delivers 5 ∷ event A Delivers 6 ∷ event A Delivers 7 ∷ event B Delivers 8 ∷ []
 
--- both ends come to Opened
-first_run_a : (after_events first_run).a.auto.state ≡ Opened
+both_opened : states first_run ≡ (Opened, Opened)
 unfolding at_first does takes does_row
-first_run_a = refl
+both_opened = refl
 
-first_run_b : (after_events first_run).b.auto.state ≡ Opened
+-- The first end's request is taken in and then repeated, with its Identifier: the Ack of the first one opens.
+abbrev repeated_run : List Event
+repeated_run = both_open ++ event B Delivers 5 ∷ event A (Commands Timeout) 6 ∷ event A Delivers 7 ∷ event A Delivers 8 ∷ []
+
+opened_by_the_first : states repeated_run ≡ (Opened, AckSent)
 unfolding at_first does takes does_row
-first_run_b = refl
+opened_by_the_first = refl
 
+-- The Ack of the repeated request comes to an Opened end, which asks anew (RFC 1661 section 4.1).
 abbrev stale_run : List Event
-stale_run = both_open ++ event B Delivers 5 ∷ event A (Commands Timeout) 6 ∷ event A Delivers 7 ∷ event A Delivers 8 ∷ []
+stale_run = repeated_run ++ event B Delivers 9 ∷ event B Delivers 10 ∷ event A Delivers 11 ∷ []
 
--- the Ack of the request before the last doesn't open
-stale_run_a : (after_events stale_run).a.auto.state ≡ AckSent
+stale_ack : states stale_run ≡ (ReqSent, Opened)
 unfolding at_first does takes does_row
-stale_run_a = refl
+stale_ack = refl
 
-stale_run_b : (after_events stale_run).b.auto.state ≡ AckSent
+-- and both come to Opened again
+abbrev settled_run : List Event
+settled_run = stale_run ++ event A Delivers 12 ∷ event B Delivers 13 ∷ event A Delivers 14 ∷ event B Delivers 15 ∷ event A Delivers 16 ∷ event B Delivers 17 ∷ []
+
+both_opened_again : states settled_run ≡ (Opened, Opened)
 unfolding at_first does takes does_row
-stale_run_b = refl
+both_opened_again = refl
 
 -- the line of the first end goes down and comes up again, so many times
 abbrev flaps : ℕ → List Event

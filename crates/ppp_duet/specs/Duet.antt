@@ -1,6 +1,8 @@
 -- Two ends with tables of one type, and a queue of packets to each: one protocol on one link. Each Configure-Request
 -- in a queue carries its ordinal as a mark, each answer to it the same mark. No end reads a mark.
-use Rattle.std.specs.Prelude.{ℕ, zero, suc, ◌+◌, ◌-◌, ◌≤◌, min, Bool, true, false, if◌then◌else◌, List, [], ◌∷◌, ◌++◌, Option, Some, None}
+use Rattle.std.specs.Prelude.{ℕ, zero, suc, ◌+◌, Bool, true, false, if◌then◌else◌, List, [], ◌∷◌, ◌++◌, Option, Some, None}
+use Rattle.ppp_packet.specs.declared.code.Code.TheVariants.{ProtocolReject}
+use Rattle.ppp_packet.specs.Code.{code_number}
 use Rattle.ppp_packet.specs.ConfigOption.{ConfigOption}
 use Rattle.ppp_auto.specs.declared.auto_state.AutoState.{AutoState}
 use Rattle.ppp_auto.specs.declared.auto_state.AutoState.TheVariants.{Initial, Starting}
@@ -8,7 +10,7 @@ use Rattle.ppp_auto.specs.declared.auto_event.AutoEvent.{AutoEvent}
 use Rattle.ppp_auto.specs.declared.input.Input.{Input}
 use Rattle.ppp_auto.specs.declared.input.Input.TheVariants.{Down}
 use Rattle.ppp_auto.specs.Automaton.{Auto, begun, Taken, taken_as, kind, input_of, judging, does_row, Effect, Sends, Tells}
-use Rattle.ppp_auto.specs.Packet.{Packet, Request, Ack, Nak, Reject, Other}
+use Rattle.ppp_auto.specs.Packet.{Packet, Request, Other}
 use Rattle.ppp_auto.specs.EventTable.{cell_of, asks, acks}
 use Rattle.ppp_auto.specs.OptionTable.{Table}
 
@@ -72,10 +74,8 @@ pub record Event : Type 0 where
 -- a request is marked by its ordinal, an answer as what it answers
 abbrev pub mark_of : ℕ → ℕ → Packet → ℕ
 mark_of n mark (Request id options) = n
-mark_of n mark (Ack id options) = mark
-mark_of n mark (Nak id options) = mark
-mark_of n mark (Reject id options) = mark
 mark_of n mark (Other code id octets) = 0
+mark_of n mark answer = mark
 
 -- the packets that are sent, marked
 abbrev pub marked : ℕ → ℕ → List Effect → List Marked
@@ -111,10 +111,7 @@ is_off s = false
 -- the ordinal of the last request taken in, after a packet of that mark
 abbrev pub got_after : End → ℕ → Packet → ℕ
 got_after e mark (Request id options) = if is_off e.auto.state then e.got else mark
-got_after e mark (Ack id options) = e.got
-got_after e mark (Nak id options) = e.got
-got_after e mark (Reject id options) = e.got
-got_after e mark (Other code id octets) = e.got
+got_after e mark p = e.got
 
 abbrev pub does_if : Setup → End → Option Input → Taken → ℕ → ℕ → Did
 does_if s e None taken mark word = record { end = e; sent = [] }
@@ -158,7 +155,7 @@ reboots sa sb d word =
 unfoldable pub at_first : Setup → Setup → Duet → Happening → ℕ → Duet
 at_first sa sb d (Commands event) word = commands sa d event word
 at_first sa sb d (SetsCap cap) word = record d { a = record d.a { auto = record d.a.auto { cap = cap } } }
-at_first sa sb d (RejectsProtocol id octets) word = record d { to_b = d.to_b ++ record { mark = 0; packet = Other 8 id octets } ∷ [] }
+at_first sa sb d (RejectsProtocol id octets) word = record d { to_b = d.to_b ++ record { mark = 0; packet = Other (code_number ProtocolReject) id octets } ∷ [] }
 at_first sa sb d Delivers word = delivers sa d d.to_a word
 at_first sa sb d (Loses place) word = record d { to_a = without place d.to_a }
 at_first sa sb d Reboots word = reboots sa sb d word
@@ -173,44 +170,3 @@ happens sa sb d event = at_side event.side sa sb d event.what event.word
 abbrev pub run : Setup → Setup → List Event → Duet → Duet
 run sa sb [] d = d
 run sa sb (e ∷ es) d = run sa sb es (happens sa sb d e)
-
--- the marks of the requests in a queue, and of the answers
-abbrev pub request_mark : ℕ → Packet → List ℕ
-request_mark mark (Request id options) = mark ∷ []
-request_mark mark (Ack id options) = []
-request_mark mark (Nak id options) = []
-request_mark mark (Reject id options) = []
-request_mark mark (Other code id octets) = []
-
-abbrev pub answer_mark : ℕ → Packet → List ℕ
-answer_mark mark (Request id options) = []
-answer_mark mark (Ack id options) = mark ∷ []
-answer_mark mark (Nak id options) = mark ∷ []
-answer_mark mark (Reject id options) = mark ∷ []
-answer_mark mark (Other code id octets) = []
-
-abbrev pub requests : List Marked → List ℕ
-requests [] = []
-requests (m ∷ ms) = request_mark m.mark m.packet ++ requests ms
-
-abbrev pub answers : List Marked → List ℕ
-answers [] = []
-answers (m ∷ ms) = answer_mark m.mark m.packet ++ answers ms
-
--- the least of a number and some
-abbrev pub least : ℕ → List ℕ → ℕ
-least n [] = n
-least n (m ∷ ms) = min m (least n ms)
-
--- The span of an end that has sent n requests: n less the least ordinal of a request of its own that is under way
--- itself, or whose answer is; 0 where none is.
-abbrev pub span_of : ℕ → List Marked → List Marked → ℕ
-span_of n out back = n - least n (requests out ++ answers back)
-
--- The widest span: then an Identifier of 8 bits tells the requests under way apart.
-abbrev pub widest : ℕ
-widest = 255
-
-pub record Narrow (d : Duet) : Type 0 where
-  pub of_a : span_of d.a.n d.to_b d.to_a ≤ widest
-  pub of_b : span_of d.b.n d.to_a d.to_b ≤ widest

@@ -1,2 +1,7 @@
+pub mod Agreement
 pub mod Duet
-pub mod TwoEnds
+pub mod NarrowRun
+pub mod Reached
+pub mod Reopening
+pub mod Span
+pub mod Terms

@@ -1,7 +1,8 @@
 //! What holds of two ends in every run. These functions answer nothing: each carries its law as its contract, over the
 //! definitions that the automaton's calls cite.
 
-ghost use Rattle.ppp_duet.specs.TwoEnds.{Agreement, Reopening};
+ghost use Rattle.ppp_duet.specs.Agreement.{Agreement};
+ghost use Rattle.ppp_duet.specs.Reopening.{Reopening};
 
 use ppp_auto::OptionTable;
 
@@ -9,7 +10,7 @@ use ppp_auto::OptionTable;
 /// states are all narrow: each end's granted options are those that the other acknowledged, both tables allow them, and
 /// the two lists fit (RFC 1661 section 4).
 pub fn agreement<T: OptionTable>(a: &T, b: &T)
-    ensures { Agreement (T.table a.now) (T.table b.now) (T.sendable a.now) (T.sendable b.now) (T.allows a.now) (T.allows b.now) T.compat }
+    ensures { Agreement T.table T.sendable T.allows T.compat a.now b.now }
 {}
 
 /// Between the moment an end leaves Opened and the moment it next enters it, the other end is outside Opened, for two

@@ -1,15 +1,13 @@
-mod Runs
-pub mod Acting
-pub mod Agreeing
+pub mod AgreementLemmas
 pub mod Allowing
-pub mod Counting
-pub mod Ends
-pub mod Entries
-pub mod Following
-pub mod LcpAgree
+pub mod FrameLemmas
+pub mod HexLemmas
 pub mod LcpLemmas
-pub mod Leading
-pub mod Posting
-pub mod Queues
-pub mod Replays
-pub mod Stepping
+pub mod LedgerLemmas
+pub mod PartyLemmas
+pub mod QueueLemmas
+pub mod ReplayLemmas
+pub mod RunLemmas
+pub mod StepLemmas
+pub mod TwoEndsLemmas
+pub mod WorldLemmas

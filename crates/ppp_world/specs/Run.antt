@@ -1,78 +1,101 @@
--- The run of a script, and its report.
-use Rattle.std.specs.Prelude.{ℕ, zero, suc, ◌+◌, List, [], ◌∷◌, ◌++◌, Option, Some, None}
+-- The run of a script, its report, and the first step that is refused.
+use Rattle.std.specs.Prelude.{ℕ, zero, suc, ◌+◌, List, [], ◌∷◌, ◌++◌, All, Option, Some, None}
+use Rattle.ppp_auto.specs.Automaton.{Entry}
 use Rattle.ppp_duet.specs.Duet.{Duet, start}
 use Rattle.ppp_script.specs.declared.event.Event.{Event}
-use Rattle.ppp_script.specs.declared.event.Event.TheVariants.{Settle}
-use Rattle.ppp_world.specs.Steps.{Step, Happens, Reports, Rests, setup, step_of, next_delivery, moved, Width, wide_of}
-use Rattle.ppp_world.specs.Texts.{show_block}
+use Rattle.ppp_world.specs.Agreement.{AgreesEverywhere}
+use Rattle.ppp_world.specs.Outstanding.{outstanding_in}
+use Rattle.ppp_world.specs.Report.{show_block}
+use Rattle.ppp_world.specs.Settings.{Settings, setup_of}
+use Rattle.ppp_world.specs.Step.{step_of, settling, next_delivery, entries_made, moved}
+use Rattle.ppp_world.specs.declared.outstanding.Outstanding.{Outstanding}
+use Rattle.ppp_world.specs.declared.refusal.Refusal.{Refusal}
+use Rattle.ppp_world.specs.declared.step.Step.{Step}
+use Rattle.ppp_world.specs.declared.step.Step.TheVariants.{Happens, Reports, Rests}
 
--- a step that was done: its number, what it was, and the state after it
+-- a step that was done: its number, what it was, the entries that it made, and the state after it
 pub record Moment : Type 0 where
   pub number : ℕ
   pub step : Step
+  pub entries : List Entry
   pub after : Duet
 
--- what a number of deliveries and the events behind them come to, from a state after so many steps
-abbrev pub moment_of : ℕ → Duet → Step → Moment
-moment_of done d step = record { number = done + 1; step = step; after = moved (done + 1) d step }
-
+-- a state after so many steps
 pub record Place : Type 0 where
   pub done : ℕ
   pub duet : Duet
 
+-- the moment of a step there
+abbrev pub moment_at : Settings → Place → Step → Moment
+moment_at s p step = record {
+  number = p.done + 1;
+  step = step;
+  entries = entries_made s (p.done + 1) p.duet step;
+  after = moved s (p.done + 1) p.duet step;
+}
+
 abbrev pub after_moment : Moment → Place
 after_moment m = record { done = m.number; duet = m.after }
 
-abbrev pub settling : ℕ → Place → List Moment
-settling zero p = []
-settling (suc count) p = let m = moment_of p.done p.duet (next_delivery p.duet) in m ∷ settling count (after_moment m)
+-- so many deliveries
+abbrev pub deliveries : Settings → ℕ → Place → List Moment
+deliveries s zero p = []
+deliveries s (suc count) p =
+    let m = moment_at s p (next_delivery p.duet) in m ∷ deliveries s count (after_moment m)
 
 -- the moments of an event: as many as it has steps
-abbrev pub moments_of : Event → Place → List Moment
-moments_of (Settle count) p = settling count p
-moments_of event p = moment_of p.done p.duet (step_of event) ∷ []
+abbrev pub moments_by : Settings → Option ℕ → Event → Place → List Moment
+moments_by s (Some count) event p = deliveries s count p
+moments_by s None event p = moment_at s p (step_of event) ∷ []
+
+abbrev pub moments_of : Settings → Event → Place → List Moment
+moments_of s event p = moments_by s (settling event) event p
 
 abbrev pub place_after : Place → List Moment → Place
 place_after p [] = p
 place_after p (m ∷ ms) = place_after (after_moment m) ms
 
-abbrev pub run_from : Place → List Event → List Moment
-run_from p [] = []
-run_from p (event ∷ events) = let ms = moments_of event p in ms ++ run_from (place_after p ms) events
+abbrev pub run_from : Settings → Place → List Event → List Moment
+run_from s p [] = []
+run_from s p (event ∷ events) = let ms = moments_of s event p in ms ++ run_from s (place_after p ms) events
 
-abbrev pub begun_place : Place
-begun_place = record { done = 0; duet = start setup setup }
+abbrev pub place_begun : Settings → Place
+place_begun s = record { done = 0; duet = start (setup_of s.a) (setup_of s.b) }
 
 -- the run of these events: every step with the state after it
-abbrev pub run_of : List Event → List Moment
-run_of events = run_from begun_place events
+abbrev pub run_of : Settings → List Event → List Moment
+run_of s events = run_from s (place_begun s) events
 
-abbrev pub shown : Moment → Step → List ℕ
-shown m Reports = show_block m.number m.after
-shown m (Happens at what) = []
-shown m Rests = []
+-- what is reported of a step
+abbrev pub shown_at : ℕ → Duet → Step → List ℕ
+shown_at k d Reports = show_block k d
+shown_at k d (Happens at what) = []
+shown_at k d Rests = []
+
+abbrev pub shown : Moment → List ℕ
+shown m = shown_at m.number m.after m.step
 
 abbrev pub report : List Moment → List ℕ
 report [] = []
-report (m ∷ ms) = shown m m.step ++ report ms
+report (m ∷ ms) = shown m ++ report ms
 
 -- the first step of a run that is refused, if there is one, and the steps before it
-pub record Refused : Type 0 where
-  pub number : ℕ
-  pub width : Width
-
-abbrev pub refusal_with : Moment → Option Width → Option Refused → Option Refused
-refusal_with m (Some width) later = Some (record { number = m.number; width = width })
+abbrev pub refusal_with : Moment → Option Outstanding → Option Refusal → Option Refusal
+refusal_with m (Some fault) later = Some (record { step = m.number; fault = fault })
 refusal_with m None later = later
 
-abbrev pub refusal : List Moment → Option Refused
+abbrev pub refusal : List Moment → Option Refusal
 refusal [] = None
-refusal (m ∷ ms) = refusal_with m (wide_of m.after) (refusal ms)
+refusal (m ∷ ms) = refusal_with m (outstanding_in m.after) (refusal ms)
 
-abbrev pub kept_with : Moment → Option Width → List Moment → List Moment
-kept_with m (Some width) later = []
+abbrev pub kept_with : Moment → Option Outstanding → List Moment → List Moment
+kept_with m (Some fault) later = []
 kept_with m None later = m ∷ later
 
 abbrev pub before_refusal : List Moment → List Moment
 before_refusal [] = []
-before_refusal (m ∷ ms) = kept_with m (wide_of m.after) (before_refusal ms)
+before_refusal (m ∷ ms) = kept_with m (outstanding_in m.after) (before_refusal ms)
+
+-- two Opened ends agree in every state of a run
+abbrev pub AgreesThroughout : List Moment → Type 0
+AgreesThroughout ms = All (λ m. AgreesEverywhere m.after) ms

@@ -1,52 +1,57 @@
 //! Whether the two ends agree.
 
-ghost use Rattle.std.specs.Prelude.{◌≡◌, ◌==◌, ◌&&◌};
+ghost use Rattle.std.specs.Prelude.{◌≡◌, ◌==◌, ◌&&◌, option_map};
 ghost use Rattle.ppp_packet.specs.OptRef.{option_seen};
-ghost use Rattle.ppp_auto.specs.Automaton.{is_opened};
 ghost use Rattle.ppp_auto.specs.Reply.{same_list};
 ghost use Rattle.ppp_world.specs.Lcp as spec;
-ghost use Rattle.ppp_world.specs.Texts.{agree_of, passes};
+ghost use Rattle.ppp_world.specs.Agreement.{agree_of, passes, terms_of, terms_seen};
+ghost use Rattle.ppp_world.specs.Party.{end_seen};
+ghost use Rattle.ppp_world.specs.TwoEnds.{duet_seen};
 
 use crate::lcp::{MAGIC, MAGIC_OCTETS, MRU, is_free, is_good_mru, is_sent_mru, magic_in, magic_of};
 use crate::party::Party;
 use crate::two_ends::TwoEnds;
-use ppp_auto::AutoState;
-use ppp_packet::{OptList, OptRef};
+use ppp_packet::{OptList, OptRef, Options};
+
+/// What an end has agreed to: the own list, the peer's, and the own one when the peer's was judged.
+#[derive(Drop)]
+struct Terms<'a> {
+    own: &'a OptList,
+    peer: &'a OptList,
+    against: Options<'a>,
+}
 
 /// Whether two Opened ends agree: each one's list is what the other acknowledged last, may be asked for and was allowed
 /// against the other's list of that moment, and the two lists fit. None where not both are Opened.
 pub(crate) fn agree(ends: &TwoEnds) -> Option<bool>
-    ensures { result ≡ agree_of ends.now }
+    ensures { result ≡ agree_of (duet_seen ends.now) }
 {
-    let a = ends.a();
-    let b = ends.b();
-    if !is_opened(a.state()) || !is_opened(b.state()) {
-        return None;
-    }
-    let (Some(of_a), Some(of_b)) = (a.peer(), b.peer()) else {
-        return None;
-    };
-    Some(passes(a, b, of_a, of_b))
+    let a = terms_of(ends.a())?;
+    let b = terms_of(ends.b())?;
+    Some(passes(&a, &b))
 }
 
-/// Whether the lists of two ends pass, of which these were acknowledged last: by end a, and by end b.
-fn passes(a: &Party, b: &Party, of_a: &OptList, of_b: &OptList) -> bool
-    ensures { result ≡ passes a.now b.now of_a.now of_b.now }
+/// What an end has agreed to. None exactly where it isn't Opened.
+fn terms_of(party: &Party) -> Option<Terms<'_>>
+    ensures { option_map terms_seen result ≡ terms_of (end_seen party.now) }
 {
-    same_list(a.own(), of_b)
-        && same_list(b.own(), of_a)
-        && is_sendable(a.own())
-        && is_sendable(b.own())
-        && is_allowed(b.against(), a.own())
-        && is_allowed(a.against(), b.own())
-        && is_compatible(a.own(), b.own())
+    let own = party.mine()?;
+    let peer = party.peer()?;
+    let against = party.against()?;
+    Some(Terms { own, peer, against })
 }
 
-/// Whether a state is Opened.
-fn is_opened(state: AutoState) -> bool
-    ensures { result ≡ is_opened state }
+/// Whether what two ends have agreed to passes.
+fn passes(a: &Terms<'_>, b: &Terms<'_>) -> bool
+    ensures { result ≡ passes (terms_seen a.now) (terms_seen b.now) }
 {
-    matches!(state, AutoState::Opened)
+    same_list(a.own, b.peer)
+        && same_list(b.own, a.peer)
+        && is_sendable(a.own)
+        && is_sendable(b.own)
+        && is_allowed(&b.against, a.own)
+        && is_allowed(&a.against, b.own)
+        && is_compatible(a.own, b.own)
 }
 
 /// Whether two lists are the same.
@@ -84,7 +89,7 @@ fn is_magic(option: OptRef<'_>) -> bool
 }
 
 /// Whether a peer's list is allowed against the own list: each option is good, and no Type stands twice.
-fn is_allowed(own: &OptList, theirs: &OptList) -> bool
+fn is_allowed(own: &Options<'_>, theirs: &OptList) -> bool
     ensures { result ≡ spec.is_allowed own.now theirs.now }
 {
     let magic = magic_of(own);
@@ -120,5 +125,6 @@ fn is_fine(own: u32, option: OptRef<'_>) -> bool
 fn is_compatible(one: &OptList, other: &OptList) -> bool
     ensures { result ≡ spec.is_compatible one.now other.now }
 {
-    magic_of(one) == 0 || magic_of(one) != magic_of(other)
+    let magic = magic_of(&one.options());
+    magic == 0 || magic != magic_of(&other.options())
 }

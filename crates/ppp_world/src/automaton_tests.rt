@@ -47,6 +47,9 @@ const PLAIN_ACK: &[u8] = &[2, 1, 0, 4];
 /// The Configure-Ack of the first own request.
 const ACK: &[u8] = &[2, 1, 0, 10, 5, 6, 0, 0, 0, 4];
 
+/// The first own request.
+const FIRST: &[u8] = &[1, 1, 0, 10, 5, 6, 0, 0, 0, 4];
+
 /// The second own request, with the list of the first.
 const SECOND: &[u8] = &[1, 2, 0, 10, 5, 6, 0, 0, 0, 4];
 
@@ -358,9 +361,9 @@ fn gives_up_after_ten_requests(rt: HostRuntime) -> Result<(), Fail> {
     let mut out = Outbox::new(rt.alloc())?;
     let mut automaton = end_after(&[OPEN], &mut out);
     automaton.event(AutoEvent::Up, OWN, &mut out);
-    for id in 1..=10 {
-        let request = [1, id, 0, 10, 5, 6, 0, 0, 0, 4];
-        assert!(rt; sends_exactly(&out, &request), "request {id}");
+    // a timeout sends the same request again
+    for time in 1..=10 {
+        assert!(rt; sends_exactly(&out, FIRST), "request {time}");
         assert_eq!(rt; automaton.state(), AutoState::ReqSent);
         automaton.event(AutoEvent::Timeout, WORD, &mut out);
     }

@@ -2,21 +2,21 @@
 
 ghost use Rattle.std.specs.Prelude.{◌≡◌, IfOk, Some};
 ghost use Rattle.ppp_auto.specs.Packet.{packet_of};
-ghost use Rattle.ppp_world.specs.Frames.{packet_held, HoldsPacket};
-ghost use Rattle.ppp_world.specs.Kinds.{kind_of};
+ghost use Rattle.ppp_world.specs.Frame.{kind_of, packet_held, HoldsPacket};
 
 use ppp_auto::Memory;
+use ppp_packet::Code;
 use std::alloc::Global;
 use std::marker::Model;
 
 /// The kinds of packets that a world tells apart by their Code (RFC 1661 section 5).
 #[derive(Clone, Copy, Debug, PartialEq, Eq)]
 pub(crate) enum PacketKind {
-    /// A Configure-Request, code 1.
+    /// A Configure-Request.
     Request,
-    /// A Configure-Ack, code 2.
+    /// A Configure-Ack.
     Ack,
-    /// A Configure-Nak or Configure-Reject, codes 3 and 4.
+    /// A Configure-Nak or Configure-Reject.
     Refusal,
     /// Any other code.
     Other,
@@ -28,10 +28,13 @@ impl PacketKind {
         requires { HoldsPacket octets.now }
         ensures { result ≡ kind_of (packet_held octets.now) }
     {
-        match octets.first() {
-            Some(1) => PacketKind::Request,
-            Some(2) => PacketKind::Ack,
-            Some(3 | 4) => PacketKind::Refusal,
+        let Some(code) = octets.first() else {
+            return PacketKind::Other;
+        };
+        match Code::try_from(*code) {
+            Ok(Code::ConfigureRequest) => PacketKind::Request,
+            Ok(Code::ConfigureAck) => PacketKind::Ack,
+            Ok(Code::ConfigureNak | Code::ConfigureReject) => PacketKind::Refusal,
             _ => PacketKind::Other,
         }
     }
@@ -46,7 +49,7 @@ pub(crate) struct Frame {
 
 impl Model for Frame {
     ghost use Rattle.ppp_duet.specs.Duet.{Marked};
-    ghost use Rattle.ppp_world.specs.Frames.{packet_held, HoldsPacket};
+    ghost use Rattle.ppp_world.specs.Frame.{packet_held, HoldsPacket};
 
     ghost Value = { Marked };
 

@@ -21,16 +21,16 @@ pub(crate) const MRU: u8 = 1;
 pub(crate) const MAGIC: u8 = 5;
 
 /// The Maximum-Receive-Unit that holds where none is negotiated, in octets.
-const DEFAULT_MRU: u16 = 1500;
+pub(crate) const DEFAULT_MRU: u16 = 1500;
 
 /// The least Maximum-Receive-Unit that is acceptable, in octets.
-const LEAST_MRU: u16 = 128;
+pub(crate) const LEAST_MRU: u16 = 128;
 
 /// The most that is asked for.
-const MOST_MRU: u16 = 8192;
+pub(crate) const MOST_MRU: u16 = 8192;
 
 /// The octets of a Maximum-Receive-Unit's number.
-const MRU_OCTETS: usize = 2;
+pub(crate) const MRU_OCTETS: usize = 2;
 
 /// The octets of a Magic-Number.
 pub(crate) const MAGIC_OCTETS: usize = 4;
@@ -89,7 +89,7 @@ impl OptionTable for LcpTable {
     fn judge(&self, own: &OptList, option: OptRef<'_>, word: u64) -> Verdict {
         match option.kind {
             MRU => judge_mru(option.body),
-            MAGIC => judge_magic(magic_of(own), option.body, word),
+            MAGIC => judge_magic(magic_of(&own.options()), option.body, word),
             _ => Verdict::Unknown,
         }
     }
@@ -121,7 +121,7 @@ impl OptionTable for LcpTable {
     }
 
     fn magic(&self, mine: &OptList) -> u32 {
-        magic_of(mine)
+        magic_of(&mine.options())
     }
 
     ghost lawful = { λ t. lcp_lawful (record { mru = t.mru; magic = t.magic }) (record { least = t.least; most = t.most }) };
@@ -204,10 +204,10 @@ fn pick(word: u64, avoid: u32) -> u32
 }
 
 /// The Magic-Number of a list, or 0.
-pub(crate) fn magic_of(list: &OptList) -> u32
+pub(crate) fn magic_of(list: &Options<'_>) -> u32
     ensures { result ≡ spec.magic_of list.now }
 {
-    let mut left = list.options();
+    let mut left = list.copied();
     while let Some((option, behind)) = left.split_first() {
         if option.kind == MAGIC && option.body.len() == MAGIC_OCTETS {
             return magic_in(option.body);

@@ -2,8 +2,10 @@
 
 ghost use Rattle.std.specs.Prelude.{◌≡◌, ◌<◌, ◌≤◌, ◌↔◌, [], ◌∷◌, ◌++◌, take, length, IsTrue, OnOk, OnErr, MatchOption};
 ghost use Rattle.std.specs.List.{remove};
-ghost use Rattle.ppp_duet.specs.Duet.{without, least, requests, answers, request_mark, answer_mark};
-ghost use Rattle.ppp_world.specs.Steps.{queue_room};
+ghost use Rattle.std.specs.Option.{option_to_list};
+ghost use Rattle.ppp_duet.specs.Duet.{without};
+ghost use Rattle.ppp_duet.specs.Span.{requests, answers, request_mark, answer_mark};
+ghost use Rattle.ppp_world.specs.declared.queue.TheConstants.{ROOM};
 
 use crate::frame::{Frame, PacketKind};
 use ppp_auto::Memory;
@@ -12,7 +14,7 @@ use std::collections::VecDeque;
 use std::marker::Model;
 
 /// How many frames a queue holds.
-const ROOM: usize = 1024;
+pub(crate) const ROOM: usize = 1024;
 
 /// The frames under way to an end, the oldest first, at most 1,024. It is seen as the list of them.
 #[derive(Drop)]
@@ -23,12 +25,13 @@ pub(crate) struct Queue {
 impl Model for Queue {
     ghost use Rattle.std.specs.Prelude.{List, ◌≤◌, length};
     ghost use Rattle.ppp_duet.specs.Duet.{Marked};
+    ghost use Rattle.ppp_world.specs.declared.queue.TheConstants.{ROOM};
 
     ghost Value = { List Marked };
 
     ghost view = { λ q. q.frames.items };
 
-    ghost invariant = { λ q. length q.frames.items ≤ 1024 };
+    ghost invariant = { λ q. length q.frames.items ≤ ROOM };
 }
 
 impl Queue {
@@ -50,8 +53,8 @@ impl Queue {
 
     /// Puts a frame at the end, or loses it where the queue is full.
     pub(crate) fn push(&mut self, frame: Frame) -> Result<(), Memory>
-        ensures ok { OnOk result (self.new ≡ take queue_room (self.old ++ frame ∷ [])) }
-        ensures room { length self.new ≤ queue_room }
+        ensures ok { OnOk result (self.new ≡ take ROOM (self.old ++ frame ∷ [])) }
+        ensures room { length self.new ≤ ROOM }
     {
         if self.frames.len() >= ROOM {
             return Ok(());
@@ -80,26 +83,28 @@ impl Queue {
         }
     }
 
-    /// The least of a number and the marks of the Configure-Requests in the queue.
-    pub(crate) fn least_request(&self, number: u64) -> u64
-        ensures { result ≡ least number (requests self.now) }
+    /// The ordinal of the first Configure-Request in the queue.
+    pub(crate) fn first_request(&self) -> Option<u64>
+        ensures { option_to_list result ≡ take 1 (requests self.now) }
     {
-        let mut lowest = number;
         for i in 0..self.frames.len() {
-            lowest = or_request(lowest, &self.frames[i]);
+            if let Some(mark) = request_mark(&self.frames[i]) {
+                return Some(mark);
+            }
         }
-        lowest
+        None
     }
 
-    /// The least of a number and the marks of the answers to Configure-Requests in the queue.
-    pub(crate) fn least_answer(&self, number: u64) -> u64
-        ensures { result ≡ least number (answers self.now) }
+    /// The ordinal of the request that the first answer to one in the queue answers.
+    pub(crate) fn first_answer(&self) -> Option<u64>
+        ensures { option_to_list result ≡ take 1 (answers self.now) }
     {
-        let mut lowest = number;
         for i in 0..self.frames.len() {
-            lowest = or_answer(lowest, &self.frames[i]);
+            if let Some(mark) = answer_mark(&self.frames[i]) {
+                return Some(mark);
+            }
         }
-        lowest
+        None
     }
 }
 
@@ -122,22 +127,22 @@ fn lose_at(frames: &mut VecDeque<Frame>, i: usize)
     }
 }
 
-/// The less of a number and the mark of a frame that is a Configure-Request.
-fn or_request(number: u64, frame: &Frame) -> u64
-    ensures { result ≡ least number (request_mark frame.now.mark frame.now.packet) }
+/// The mark of a frame, if it is a Configure-Request.
+fn request_mark(frame: &Frame) -> Option<u64>
+    ensures { option_to_list result ≡ request_mark frame.now.mark frame.now.packet }
 {
     match frame.kind() {
-        PacketKind::Request => frame.mark().min(number),
-        PacketKind::Ack | PacketKind::Refusal | PacketKind::Other => number,
+        PacketKind::Request => Some(frame.mark()),
+        PacketKind::Ack | PacketKind::Refusal | PacketKind::Other => None,
     }
 }
 
-/// The less of a number and the mark of a frame that answers a Configure-Request.
-fn or_answer(number: u64, frame: &Frame) -> u64
-    ensures { result ≡ least number (answer_mark frame.now.mark frame.now.packet) }
+/// The mark of a frame, if it answers a Configure-Request.
+fn answer_mark(frame: &Frame) -> Option<u64>
+    ensures { option_to_list result ≡ answer_mark frame.now.mark frame.now.packet }
 {
     match frame.kind() {
-        PacketKind::Ack | PacketKind::Refusal => frame.mark().min(number),
-        PacketKind::Request | PacketKind::Other => number,
+        PacketKind::Ack | PacketKind::Refusal => Some(frame.mark()),
+        PacketKind::Request | PacketKind::Other => None,
     }
 }

@@ -1,107 +1,169 @@
 //! The blocks of a report.
 
-ghost use Rattle.std.specs.Prelude.{◌≡◌, ◌++◌, OnOk, option_map};
-ghost use Rattle.std.specs.Fmt.{decimal};
-ghost use Rattle.ppp_world.specs.Texts.{state_name, states_text, list_text, lists_text, agree_of, agree_text, agreement_text, lcp_line, show_block};
+ghost use Rattle.std.specs.Prelude.{◌≡◌, ◌<◌, ◌++◌, ◌∷◌, [], OnOk, Some, option_map, slice_index};
+ghost use Rattle.std.specs.String.{string_bytes};
+ghost use Rattle.hex.specs.Hex.{encode_lower, lower_digits};
+ghost use Rattle.ppp_world.specs.Report.{agree_text, lcp_line, list_text, lists_text, show_block, state_name, states_text, terms_text};
+ghost use Rattle.ppp_world.specs.TwoEnds.{duet_seen};
 
 use crate::agreement::agree;
 use crate::party::Party;
+use crate::step::ONLY_LINK;
 use crate::two_ends::TwoEnds;
 use ppp_auto::{AutoState, Memory};
-use ppp_packet::OptList;
-use std::alloc::Global;
+use ppp_packet::{OptList, Proto};
+use std::fmt;
 
 /// Writes the block of a `show` at a step.
-pub(crate) fn write_show(
-    report: &mut Vec<u8>,
-    number: u32,
-    ends: &TwoEnds,
-    alloc: Global,
-) -> Result<(), Memory>
-    ensures { OnOk result (report.new.items ≡ report.old.items ++ show_block number ends.now) }
+pub(crate) fn write_show(report: &mut String, number: u32, ends: &TwoEnds) -> Result<(), Memory>
+    ensures { OnOk result (string_bytes report.new ≡ string_bytes report.old ++ show_block number (duet_seen ends.now)) }
 {
-    put(report, "show ")?;
-    put_number(report, number, alloc)?;
-    put(report, "\n")?;
-    write_lcp(report, ends, alloc)
+    let line = Line { ends };
+    write!(report, "show {number}\n{line}").map_err(|_| Memory)
 }
 
-/// Writes the states and lists of the link's LCP at both ends.
-fn write_lcp(report: &mut Vec<u8>, ends: &TwoEnds, alloc: Global) -> Result<(), Memory>
-    ensures { OnOk result (report.new.items ≡ report.old.items ++ lcp_line ends.now) }
-{
-    write_states(report, ends.a(), ends.b())?;
-    write_lists(report, ends.a(), alloc)?;
-    write_lists(report, ends.b(), alloc)?;
-    write_agreement(report, ends)?;
-    Ok(())
+/// The states and lists of the link's LCP at both ends.
+#[derive(Clone, Copy)]
+struct Line<'a> {
+    ends: &'a TwoEnds,
 }
 
-/// Writes the states of both ends.
-#[tactic(auto, unfolding(crate::specs::Texts::states_text))]
-fn write_states(report: &mut Vec<u8>, a: &Party, b: &Party) -> Result<(), Memory>
-    ensures { OnOk result (report.new.items ≡ report.old.items ++ states_text a.now.auto.state b.now.auto.state) }
-{
-    put(report, "1 lcp ")?;
-    put(report, state_name(a.state()))?;
-    put(report, " ")?;
-    put(report, state_name(b.state()))
-}
+impl fmt::Display for Line<'_> {
+    ghost output = { λ line. Some (lcp_line (duet_seen line.ends.now)) };
 
-/// Writes whether both ends agree, and ends the line.
-#[tactic(auto, unfolding(crate::specs::Texts::agreement_text))]
-fn write_agreement(report: &mut Vec<u8>, ends: &TwoEnds) -> Result<(), Memory>
-    ensures { OnOk result (report.new.items ≡ report.old.items ++ agreement_text (agree_of ends.now)) }
-{
-    put(report, " agree ")?;
-    put(report, agree_text(agree(ends)))?;
-    put(report, "\n")
-}
-
-/// Writes the lists that are granted to an end and to its peer, each behind a space.
-#[tactic(auto, unfolding(crate::specs::Texts::lists_text))]
-fn write_lists(report: &mut Vec<u8>, party: &Party, alloc: Global) -> Result<(), Memory>
-    ensures { OnOk result (report.new.items ≡ report.old.items ++ lists_text party.now.auto) }
-{
-    put(report, " ")?;
-    put_list(report, party.mine(), alloc)?;
-    put(report, " ")?;
-    put_list(report, party.peer(), alloc)
-}
-
-/// Writes a list in hexadecimal digits.
-fn put_list(report: &mut Vec<u8>, list: Option<&OptList>, alloc: Global) -> Result<(), Memory>
-    ensures { OnOk result (report.new.items ≡ report.old.items ++ list_text (option_map (λ list. list.now) list.entry)) }
-{
-    let Some(list) = list else {
-        return put(report, "-");
-    };
-    if list.is_empty() {
-        return put(report, "empty");
-    }
-    match hex::encode(alloc, list.octets()) {
-        Ok(text) => put(report, text.as_str()),
-        Err(_) => Err(Memory),
+    fn fmt<W: fmt::Write>(&self, f: &mut fmt::Formatter<W>) -> fmt::Result {
+        let proto = Proto::Lcp;
+        let states = States { ends: self.ends };
+        let terms = Terms { ends: self.ends };
+        write!(f, "{ONLY_LINK} {proto} {states} {terms}\n")
     }
 }
 
-/// Writes a number in decimal digits.
-fn put_number(report: &mut Vec<u8>, number: u32, alloc: Global) -> Result<(), Memory>
-    ensures { OnOk result (report.new.items ≡ report.old.items ++ decimal number) }
-{
-    match format!(in alloc; "{number}") {
-        Ok(text) => put(report, text.as_str()),
-        Err(_) => Err(Memory),
+/// What is granted to each end and to its peer, and whether they agree.
+#[derive(Clone, Copy)]
+struct Terms<'a> {
+    ends: &'a TwoEnds,
+}
+
+impl fmt::Display for Terms<'_> {
+    ghost output = { λ t. Some (terms_text (duet_seen t.ends.now)) };
+
+    #[tactic(auto, unfolding(crate::specs::Report::terms_text))]
+    fn fmt<W: fmt::Write>(&self, f: &mut fmt::Formatter<W>) -> fmt::Result {
+        let a = Lists {
+            party: self.ends.a(),
+        };
+        let b = Lists {
+            party: self.ends.b(),
+        };
+        let agree = agree_text(agree(self.ends));
+        write!(f, "{a} {b} agree {agree}")
     }
 }
 
-/// Writes a text.
-fn put(report: &mut Vec<u8>, text: &str) -> Result<(), Memory>
-    ensures { OnOk result (report.new.items ≡ report.old.items ++ text.now) }
+/// The states of both ends.
+#[derive(Clone, Copy)]
+struct States<'a> {
+    ends: &'a TwoEnds,
+}
+
+impl fmt::Display for States<'_> {
+    ghost output = { λ s. Some (states_text s.ends.now.a.auto.state s.ends.now.b.auto.state) };
+
+    #[tactic(auto, unfolding(crate::specs::Report::states_text))]
+    fn fmt<W: fmt::Write>(&self, f: &mut fmt::Formatter<W>) -> fmt::Result {
+        let a = state_name(self.ends.a().state());
+        let b = state_name(self.ends.b().state());
+        write!(f, "{a} {b}")
+    }
+}
+
+/// The lists that are granted to an end and to its peer.
+#[derive(Clone, Copy)]
+struct Lists<'a> {
+    party: &'a Party,
+}
+
+impl fmt::Display for Lists<'_> {
+    ghost output = { λ l. Some (lists_text l.party.now.auto) };
+
+    #[tactic(auto, unfolding(crate::specs::Report::lists_text))]
+    fn fmt<W: fmt::Write>(&self, f: &mut fmt::Formatter<W>) -> fmt::Result {
+        let mine = Granted {
+            list: self.party.mine(),
+        };
+        let peer = Granted {
+            list: self.party.peer(),
+        };
+        write!(f, "{mine} {peer}")
+    }
+}
+
+/// A list, if it is granted.
+#[derive(Clone, Copy)]
+struct Granted<'a> {
+    list: Option<&'a OptList>,
+}
+
+impl fmt::Display for Granted<'_> {
+    ghost output = { λ g. Some (list_text (option_map (λ list. list.now) g.list)) };
+
+    fn fmt<W: fmt::Write>(&self, f: &mut fmt::Formatter<W>) -> fmt::Result {
+        let Some(list) = self.list else {
+            return f.write_str("-");
+        };
+        if list.is_empty() {
+            return f.write_str("empty");
+        }
+        let octets = Hex {
+            octets: list.octets(),
+        };
+        write!(f, "{octets}")
+    }
+}
+
+/// Octets in hexadecimal digits.
+#[derive(Clone, Copy)]
+struct Hex<'a> {
+    octets: &'a [u8],
+}
+
+impl fmt::Display for Hex<'_> {
+    ghost output = { λ h. Some (encode_lower h.octets.now) };
+
+    fn fmt<W: fmt::Write>(&self, f: &mut fmt::Formatter<W>) -> fmt::Result {
+        for octet in self.octets {
+            let high = digit(octet / 16);
+            let low = digit(octet % 16);
+            write!(f, "{high}{low}")?;
+        }
+        Ok(())
+    }
+}
+
+/// The hexadecimal digit of a number below 16.
+fn digit(number: u8) -> &'static str
+    requires { number < 16 }
+    ensures { result.now ≡ slice_index lower_digits number ∷ [] }
 {
-    report
-        .extend_from_slice(text.as_bytes())
-        .map_err(|_| Memory)
+    match number {
+        0 => "0",
+        1 => "1",
+        2 => "2",
+        3 => "3",
+        4 => "4",
+        5 => "5",
+        6 => "6",
+        7 => "7",
+        8 => "8",
+        9 => "9",
+        10 => "a",
+        11 => "b",
+        12 => "c",
+        13 => "d",
+        14 => "e",
+        _ => "f",
+    }
 }
 
 /// A state's name.

@@ -1,8 +1,7 @@
 //! The steps of a script.
 
 ghost use Rattle.std.specs.Prelude.{◌≡◌};
-ghost use Rattle.ppp_world.specs.StepViews.{step_seen};
-ghost use Rattle.ppp_world.specs.Steps.{on_link, on_lcp, step_of};
+ghost use Rattle.ppp_world.specs.Step.{on_link, on_lcp, settling, step_of};
 
 use ppp_auto::AutoEvent;
 use ppp_packet::Proto;
@@ -36,7 +35,7 @@ pub(crate) enum Step {
 impl Step {
     /// The step of an event that is one step.
     pub(crate) fn of(event: &Event) -> Step
-        ensures { step_seen result ≡ step_of event.now }
+        ensures { result ≡ step_of event.now }
     {
         match *event {
             Event::Up(end, link) => on_line(link, command(end, AutoEvent::Up)),
@@ -67,6 +66,16 @@ impl Step {
     }
 }
 
+/// How many deliveries an event settles by: None exactly where it is one step.
+pub(crate) fn settling(event: &Event) -> Option<u16>
+    ensures { result ≡ settling event.now }
+{
+    match *event {
+        Event::Settle(count) => Some(count),
+        _ => None,
+    }
+}
+
 /// The step that an event without a packet is.
 fn command(end: End, event: AutoEvent) -> Step
     ensures { result ≡ Step.Happens end (Happening.Command event) }
@@ -76,14 +85,14 @@ fn command(end: End, event: AutoEvent) -> Step
 
 /// A step of that link: nothing, if it is another than the one that there is.
 fn on_line(link: u8, step: Step) -> Step
-    ensures { step_seen result ≡ on_link link (step_seen step) }
+    ensures { result ≡ on_link link step }
 {
     if link == ONLY_LINK { step } else { Step::Rests }
 }
 
 /// A step of that protocol on that link: nothing, if it is another than the one that there is.
 fn on_protocol(link: u8, protocol: Proto, step: Step) -> Step
-    ensures { step_seen result ≡ on_link link (on_lcp protocol (step_seen step)) }
+    ensures { result ≡ on_link link (on_lcp protocol step) }
 {
     match protocol {
         Proto::Lcp => on_line(link, step),

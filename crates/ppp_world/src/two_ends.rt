@@ -1,31 +1,28 @@
 //! The two ends of the link and what is under way between them.
 
-ghost use Rattle.std.specs.Prelude.{◌≡◌, ◌≤◌, ◌<◌, ◌^◌, take, length, option_map, OnOk, IfOk};
-ghost use Rattle.ppp_duet.specs.Duet.{start, happens};
-ghost use Rattle.ppp_world.specs.StepViews.{acted, happening_seen, step_seen, width_seen};
-ghost use Rattle.ppp_world.specs.Steps.{setup, side_of, queue_room, within_room, next_delivery, too_wide, wide_of};
+ghost use Rattle.std.specs.Prelude.{◌≡◌, ◌≤◌, ◌<◌, ◌^◌, ◌++◌, take, length, OnOk, IfOk};
+ghost use Rattle.ppp_duet.specs.Duet.{happens};
+ghost use Rattle.ppp_duet.specs.Reached.{OldestFirst};
+ghost use Rattle.ppp_duet.specs.Span.{answers, least, requests};
+ghost use Rattle.ppp_world.specs.Outstanding.{oldest_of, outstanding_in, outstanding_of};
+ghost use Rattle.ppp_world.specs.Party.{end_seen, IsKept};
+ghost use Rattle.ppp_world.specs.Settings.{default_settings, setup_of};
+ghost use Rattle.ppp_world.specs.Step.{event_of, next_delivery, within_room, word_of};
+ghost use Rattle.ppp_world.specs.TwoEnds.{acted, duet_seen, ends_begun, settings_of, AreKept};
+ghost use Rattle.ppp_world.specs.declared.queue.TheConstants.{ROOM};
 
+use crate::outstanding::Outstanding;
 use crate::party::Party;
 use crate::queue::Queue;
-use crate::step::{Happening, Step};
+use crate::step::{Happening, ONLY_LINK, Step};
 use ppp_auto::{Memory, Outbox};
+use ppp_packet::Proto;
 use ppp_script::End;
 use std::alloc::Global;
 use std::marker::Model;
 
 /// The widest span: an Identifier of 8 bits tells that many requests apart.
 const WIDEST: u64 = 255;
-
-/// A span that is too wide.
-#[derive(Clone, Copy, Debug, PartialEq, Eq)]
-pub(crate) struct Width {
-    /// The end whose requests they are.
-    pub(crate) end: End,
-    /// How many it has sent.
-    pub(crate) sent: u64,
-    /// The oldest of which something is under way.
-    pub(crate) oldest: u64,
-}
 
 /// The two ends of the link, and the frames under way to each.
 #[derive(Drop)]
@@ -39,11 +36,10 @@ pub(crate) struct TwoEnds {
 }
 
 impl Model for TwoEnds {
-    ghost use Rattle.std.specs.Prelude.{◌≤◌, length};
-    ghost use Rattle.ppp_duet.specs.Duet.{Duet};
-    ghost use Rattle.ppp_world.specs.Parties.{HasRoom};
+    ghost use Rattle.ppp_world.specs.TwoEnds.{HasRoom};
+    ghost use Rattle.ppp_world.specs.TwoEnds as spec;
 
-    ghost Value = { Duet };
+    ghost Value = { spec.TwoEnds };
 
     ghost view = { λ d. record { a = d.a; b = d.b; to_a = d.to_a; to_b = d.to_b } };
 
@@ -51,14 +47,14 @@ impl Model for TwoEnds {
 }
 
 impl TwoEnds {
-    /// Both ends as they begin, with nothing under way.
+    /// Both ends as they begin, with the default settings and nothing under way.
     pub(crate) fn new(alloc: Global) -> Result<TwoEnds, Memory>
-        ensures { IfOk result (λ d. d ≡ start setup setup) }
+        ensures { IfOk result (λ d. d ≡ ends_begun default_settings) }
     {
         let out = Outbox::new(alloc)?;
         Ok(TwoEnds {
-            a: Party::new(),
-            b: Party::new(),
+            a: Party::new(alloc),
+            b: Party::new(alloc),
             to_a: Queue::new(alloc),
             to_b: Queue::new(alloc),
             out,
@@ -66,12 +62,16 @@ impl TwoEnds {
         })
     }
 
-    /// Something happens at an end. A frame that is sent into a full queue is lost.
-    pub(crate) fn happens(&mut self, at: End, what: Happening, word: u64) -> Result<(), Memory>
-        requires few_a { self.old.a.n < 2 ^ 63 }
-        requires few_b { self.old.b.n < 2 ^ 63 }
-        ensures { OnOk result (self.new ≡ within_room (happens setup setup self.old (record { side = side_of at; what = happening_seen what; word = word }))) }
+    /// Something happens at an end in the step of that number. A frame that is sent into a full queue is lost.
+    pub(crate) fn happens(&mut self, at: End, what: Happening, number: u32) -> Result<(), Memory>
+        requires kept { AreKept self.old }
+        requires few_a { self.old.a.ledger.n < 2 ^ 63 }
+        requires few_b { self.old.b.ledger.n < 2 ^ 63 }
+        ensures settings { settings_of self.new ≡ settings_of self.old }
+        ensures duet { OnOk result (duet_seen self.new ≡ within_room (happens (setup_of self.old.a.settings) (setup_of self.old.b.settings) (duet_seen self.old) (event_of number at what))) }
+        ensures kept { OnOk result (AreKept self.new) }
     {
+        let word = word_at(at, number);
         match at {
             End::A => act(
                 &mut self.a,
@@ -96,7 +96,7 @@ impl TwoEnds {
 
     /// The delivery of the front frame of the first queue that isn't empty, that to a before that to b.
     pub(crate) fn next_delivery(&self) -> Step
-        ensures { step_seen result ≡ next_delivery self.now }
+        ensures { result ≡ next_delivery (duet_seen self.now) }
     {
         if !self.to_a.is_empty() {
             Step::Happens(End::A, Happening::Deliver)
@@ -108,12 +108,13 @@ impl TwoEnds {
     }
 
     /// The first span that is too wide, end a's before end b's.
-    pub(crate) fn too_wide(&self) -> Option<Width>
-        ensures { option_map width_seen result ≡ wide_of self.now }
+    pub(crate) fn outstanding(&self) -> Option<Outstanding>
+        requires { OldestFirst (duet_seen self.now) }
+        ensures { result ≡ outstanding_in (duet_seen self.now) }
     {
-        match span_too_wide(End::A, self.a.sent(), &self.to_b, &self.to_a) {
-            Some(width) => Some(width),
-            None => span_too_wide(End::B, self.b.sent(), &self.to_a, &self.to_b),
+        match outstanding_of(End::A, self.a.sent(), &self.to_b, &self.to_a) {
+            Some(fault) => Some(fault),
+            None => outstanding_of(End::B, self.b.sent(), &self.to_a, &self.to_b),
         }
     }
 
@@ -132,6 +133,16 @@ impl TwoEnds {
     }
 }
 
+/// The word of the step of that number at an end.
+fn word_at(at: End, number: u32) -> u64
+    ensures { result ≡ word_of at number }
+{
+    match at {
+        End::A => 2 * u64::from(number),
+        End::B => 2 * u64::from(number) + 1,
+    }
+}
+
 /// Something happens at an end: frames are taken from the one queue, and what is sent is put into the other.
 fn act(
     party: &mut Party,
@@ -142,14 +153,17 @@ fn act(
     out: &mut Outbox,
     alloc: Global,
 ) -> Result<(), Memory>
-    requires few { party.old.n < 2 ^ 63 }
-    requires room_in { length incoming.old ≤ queue_room }
-    requires room_out { length outgoing.old ≤ queue_room }
-    ensures end { OnOk result (party.new ≡ (acted party.old incoming.old outgoing.old (happening_seen what) word).a) }
-    ensures incoming { OnOk result (incoming.new ≡ (acted party.old incoming.old outgoing.old (happening_seen what) word).to_a) }
-    ensures outgoing { OnOk result (outgoing.new ≡ take queue_room (acted party.old incoming.old outgoing.old (happening_seen what) word).to_b) }
-    ensures room_in { length incoming.new ≤ queue_room }
-    ensures room_out { length outgoing.new ≤ queue_room }
+    requires kept { IsKept party.old }
+    requires few { party.old.ledger.n < 2 ^ 63 }
+    requires room_in { length incoming.old ≤ ROOM }
+    requires room_out { length outgoing.old ≤ ROOM }
+    ensures end { OnOk result (end_seen party.new ≡ (acted party.old incoming.old outgoing.old what word).a) }
+    ensures settings { party.new.settings ≡ party.old.settings }
+    ensures kept { OnOk result (IsKept party.new) }
+    ensures incoming { OnOk result (incoming.new ≡ (acted party.old incoming.old outgoing.old what word).to_a) }
+    ensures outgoing { OnOk result (outgoing.new ≡ take ROOM (acted party.old incoming.old outgoing.old what word).to_b) }
+    ensures room_in { length incoming.new ≤ ROOM }
+    ensures room_out { length outgoing.new ≤ ROOM }
 {
     match what {
         Happening::Command(event) => party.command(event, word, out, outgoing, alloc),
@@ -165,13 +179,21 @@ fn act(
 }
 
 /// An end's span, if it is too wide: after so many requests, with what is under way from it and back to it.
-fn span_too_wide(end: End, sent: u64, out: &Queue, back: &Queue) -> Option<Width>
-    ensures { option_map width_seen result ≡ too_wide end sent out.now back.now }
+fn outstanding_of(end: End, sent: u64, out: &Queue, back: &Queue) -> Option<Outstanding>
+    requires { oldest_of sent out.now back.now ≡ least sent (take 1 (requests out.now) ++ take 1 (answers back.now)) }
+    ensures { result ≡ outstanding_of end sent out.now back.now }
 {
-    let oldest = out.least_request(back.least_answer(sent));
-    if sent.saturating_sub(oldest) > WIDEST {
-        Some(Width { end, sent, oldest })
-    } else {
-        None
+    let by_request = out.first_request().unwrap_or(sent);
+    let by_answer = back.first_answer().unwrap_or(sent);
+    let oldest = by_request.min(by_answer).min(sent);
+    if sent.saturating_sub(oldest) <= WIDEST {
+        return None;
     }
+    Some(Outstanding {
+        end,
+        link: ONLY_LINK,
+        protocol: Proto::Lcp.number(),
+        sent,
+        oldest,
+    })
 }

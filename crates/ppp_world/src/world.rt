@@ -1,23 +1,26 @@
 //! The world of a script.
 
-ghost use Rattle.std.specs.Prelude.{◌≡◌, ◌≢◌, ◌↔◌, ◌+◌, ◌≤◌, ◌++◌, false, IsNone, IsSome, OnOk, IfOk, None, Some, option_map};
+ghost use Rattle.std.specs.Prelude.{◌≡◌, ◌≢◌, ◌↔◌, ◌+◌, ◌≤◌, ◌++◌, ◌^◌, ◌<◌, false, IsNone, IsSome, OnOk, IfOk, None, Some};
+ghost use Rattle.std.specs.String.{string_bytes};
+ghost use Rattle.ppp_duet.specs.Reached.{OldestFirst};
 ghost use Rattle.ppp_script.specs.Events.{steps_in};
-ghost use Rattle.ppp_world.specs.Agreed.{agree_on, AreOpened};
-ghost use Rattle.ppp_world.specs.Halts.{answer_of, halt_in, UnlessMemory, IsCounted};
-ghost use Rattle.ppp_world.specs.Journal.{begun_journal, journal_after, takes_step, does_step, settled};
-ghost use Rattle.ppp_world.specs.Led.{IsLed};
-ghost use Rattle.ppp_world.specs.Run.{shown};
-ghost use Rattle.ppp_world.specs.StepViews.{step_seen, width_seen};
-ghost use Rattle.ppp_world.specs.Steps.{moved, side_of, wide_of, word_of};
+ghost use Rattle.ppp_world.specs.Agreement.{agree_at, AreOpenedAt};
+ghost use Rattle.ppp_world.specs.Outstanding.{outstanding_in};
+ghost use Rattle.ppp_world.specs.Run.{deliveries, shown_at};
+ghost use Rattle.ppp_world.specs.Settings.{default_settings};
+ghost use Rattle.ppp_world.specs.Step.{moved};
+ghost use Rattle.ppp_world.specs.TwoEnds.{duet_seen, settings_of, AreKept};
+ghost use Rattle.ppp_world.specs.World.{answer_of, does_moments, does_step, fault_in, fault_of, place_of, world_after, world_begun, world_of, AreLed, Makes, UnlessMemory};
 
 use crate::agreement::agree;
-use crate::fault::{Halt, WorldFault};
+use crate::outstanding::Outstanding;
 use crate::report::write_show;
-use crate::step::{ONLY_LINK, Step};
-use crate::two_ends::{TwoEnds, Width};
+use crate::step::{ONLY_LINK, Step, settling};
+use crate::two_ends::TwoEnds;
+use crate::world_fault::WorldFault;
 use ppp_auto::Memory;
 use ppp_packet::Proto;
-use ppp_script::{End, Event};
+use ppp_script::Event;
 use std::alloc::Global;
 use std::marker::Model;
 
@@ -27,34 +30,34 @@ use std::marker::Model;
 pub struct World {
     ends: TwoEnds,
     steps: u32,
-    report: Vec<u8>,
-    halt: Option<Halt>,
-    alloc: Global,
+    report: String,
+    halt: Option<WorldFault>,
 }
 
 impl Model for World {
-    ghost use Rattle.ppp_world.specs.Halts.{kept_halt, IsKeptUnless};
-    ghost use Rattle.ppp_world.specs.Journal.{Journal};
+    ghost use Rattle.std.specs.String.{string_bytes};
+    ghost use Rattle.ppp_world.specs.TwoEnds.{duet_seen, settings_of};
+    ghost use Rattle.ppp_world.specs.World.{IsLedUnless};
+    ghost use Rattle.ppp_world.specs.World as spec;
 
-    ghost Value = { Journal };
+    ghost Value = { spec.World };
 
-    ghost view = { λ w. record { duet = w.ends; steps = w.steps; report = w.report.items; halt = kept_halt w.halt } };
+    ghost view = { λ w. record { settings = settings_of w.ends; duet = duet_seen w.ends; steps = w.steps; report = string_bytes w.report; halt = w.halt } };
 
-    ghost invariant = { λ w. IsKeptUnless w.halt w.ends w.steps };
+    ghost invariant = { λ w. IsLedUnless w.halt w.ends w.steps };
 }
 
 impl World {
-    /// Both ends as they begin, with nothing under way and an empty report.
+    /// Both ends as they begin, with the default settings, nothing under way and an empty report.
     pub fn new(alloc: Global) -> Result<World, Memory>
-        ensures { IfOk result (λ world. world ≡ begun_journal) }
+        ensures { IfOk result (λ world. world ≡ world_begun default_settings) }
     {
         let ends = TwoEnds::new(alloc)?;
         Ok(World {
             ends,
             steps: 0,
-            report: Vec::new(alloc),
+            report: String::new(alloc),
             halt: None,
-            alloc,
         })
     }
 
@@ -63,16 +66,17 @@ impl World {
     /// every call gives the same refusal.
     pub fn step(&mut self, event: &Event) -> Result<(), WorldFault>
         requires { self.old.steps + steps_in event.now ≤ 100000 }
-        ensures done { UnlessMemory self.new.halt (self.new ≡ journal_after self.old event.now) }
+        ensures done { UnlessMemory self.new.halt (self.new ≡ world_after self.old event.now) }
+        ensures makes { UnlessMemory self.new.halt (Makes self.old.settings (steps_in event.now) self.old.duet self.new.duet) }
         ensures answer { result ≡ answer_of self.new.halt }
         ensures halted { IsSome self.old.halt → self.new ≡ self.old }
         ensures steps { self.new.steps ≤ self.old.steps + steps_in event.now }
     {
-        match *event {
-            Event::Settle(count) => self.settle(count),
-            _ => self.take(Step::of(event)),
+        self.run(event);
+        match self.halt {
+            None => Ok(()),
+            Some(fault) => Err(fault),
         }
-        Halt::answer(self.halt)
     }
 
     /// Whether the two ends of a protocol on a link agree: each end's granted options are those that the other
@@ -80,8 +84,8 @@ impl World {
     /// or in a protocol that isn't there. It is never false.
     pub fn agree(&self, link: u8, proto: Proto) -> Option<bool>
         requires { self.now.halt ≡ None }
-        ensures value { result ≡ agree_on link proto self.now.duet }
-        ensures none { IsNone result ↔ ¬ (AreOpened link proto self.now.duet) }
+        ensures value { result ≡ agree_at link proto self.now.duet }
+        ensures none { IsNone result ↔ ¬ (AreOpenedAt link proto self.now.duet) }
         ensures never_false { result ≢ Some false }
     {
         match proto {
@@ -101,20 +105,33 @@ impl World {
     pub fn report(&self) -> &[u8]
         ensures { result.now ≡ self.now.report }
     {
-        self.report.as_slice()
+        self.report.as_bytes()
     }
 
     /// The report, by value.
     pub(crate) fn into_report(self) -> Vec<u8>
         ensures { result.items ≡ self.report }
     {
-        self.report
+        self.report.into_bytes()
+    }
+
+    /// Does the steps of an event, unless the world has halted.
+    fn run(&mut self, event: &Event)
+        requires { self.old.steps + steps_in event.now ≤ 100000 }
+        ensures done { UnlessMemory self.new.halt (self.new ≡ world_after self.old event.now) }
+        ensures halted { IsSome self.old.halt → self.new ≡ self.old }
+        ensures steps { self.new.steps ≤ self.old.steps + steps_in event.now }
+    {
+        match settling(event) {
+            Some(count) => self.settle(count),
+            None => self.take(Step::of(event)),
+        }
     }
 
     /// Does that many deliveries, each of the front frame of the first queue that isn't empty.
     fn settle(&mut self, count: u16)
         requires { self.old.steps + count ≤ 100000 }
-        ensures done { UnlessMemory self.new.halt (self.new ≡ settled count self.old) }
+        ensures done { UnlessMemory self.new.halt (self.new ≡ does_moments self.old (deliveries self.old.settings count (place_of self.old))) }
         ensures halted { IsSome self.old.halt → self.new ≡ self.old }
         ensures steps { self.new.steps ≤ self.old.steps + count }
     {
@@ -127,22 +144,16 @@ impl World {
     /// Does a step, unless the world has halted.
     fn take(&mut self, step: Step)
         requires { self.old.steps + 1 ≤ 100000 }
-        ensures done { UnlessMemory self.new.halt (self.new ≡ takes_step self.old (step_seen step)) }
+        ensures done { UnlessMemory self.new.halt (self.new ≡ does_step self.old step) }
         ensures halted { IsSome self.old.halt → self.new ≡ self.old }
         ensures steps { self.new.steps ≤ self.old.steps + 1 }
     {
         if self.halt.is_some() {
             return;
         }
-        match go(
-            &mut self.ends,
-            &mut self.steps,
-            &mut self.report,
-            step,
-            self.alloc,
-        ) {
+        match go(&mut self.ends, &mut self.steps, &mut self.report, step) {
             Ok(()) => {}
-            Err(halt) => self.halt = Some(halt),
+            Err(fault) => self.halt = Some(fault),
         }
     }
 }
@@ -151,16 +162,13 @@ impl World {
 fn go(
     ends: &mut TwoEnds,
     steps: &mut u32,
-    report: &mut Vec<u8>,
+    report: &mut String,
     step: Step,
-    alloc: Global,
-) -> Result<(), Halt>
-    requires counted { IsCounted ends.old steps.old }
-    requires led { IsLed ends.old }
+) -> Result<(), WorldFault>
+    requires led { AreLed ends.old steps.old }
     requires few { steps.old + 1 ≤ 100000 }
-    ensures done { UnlessMemory (halt_in result) (record { duet = ends.new; steps = steps.new; report = report.new.items; halt = halt_in result } ≡ does_step (record { duet = ends.old; steps = steps.old; report = report.old.items; halt = None }) (step_seen step)) }
-    ensures counted { OnOk result (IsCounted ends.new steps.new) }
-    ensures led { OnOk result (IsLed ends.new) }
+    ensures done { UnlessMemory (fault_in result) (world_of ends.new steps.new (string_bytes report.new) (fault_in result) ≡ does_step (world_of ends.old steps.old (string_bytes report.old) None) step) }
+    ensures led { OnOk result (AreLed ends.new steps.new) }
     ensures steps { steps.new ≤ steps.old + 1 }
 {
     let number = *steps + 1;
@@ -168,64 +176,66 @@ fn go(
     let sent_b = ends.b().sent();
     match advance(ends, number, step) {
         Ok(()) => {}
-        Err(Memory) => return Err(Halt::Memory),
+        Err(Memory) => return Err(WorldFault::Memory),
     }
-    if let Some(width) = wider_since(ends, sent_a, sent_b) {
-        return Err(Halt::TooWide(width));
+    if let Some(fault) = wider_since(ends, sent_a, sent_b) {
+        return Err(refused(fault));
     }
-    match show(report, number, step, ends, alloc) {
+    match show(report, number, step, ends) {
         Ok(()) => {}
-        Err(Memory) => return Err(Halt::Memory),
+        Err(Memory) => return Err(WorldFault::Memory),
     }
     *steps = number;
     Ok(())
 }
 
-/// A span that is too wide, where one can have become so: no span becomes wider where its end sends no request.
-fn wider_since(ends: &TwoEnds, sent_a: u64, sent_b: u64) -> Option<Width>
-    requires { ends.now.a.n ≤ sent_a → ends.now.b.n ≤ sent_b → wide_of ends.now ≡ None }
-    ensures { option_map width_seen result ≡ wide_of ends.now }
+/// A span that is too wide, where one can have become so: no span becomes wider where its end draws no ordinal.
+fn wider_since(ends: &TwoEnds, sent_a: u64, sent_b: u64) -> Option<Outstanding>
+    requires oldest { OldestFirst (duet_seen ends.now) }
+    requires still { ends.now.a.ledger.n ≤ sent_a → ends.now.b.ledger.n ≤ sent_b → outstanding_in (duet_seen ends.now) ≡ None }
+    ensures { result ≡ outstanding_in (duet_seen ends.now) }
 {
     if ends.a().sent() <= sent_a && ends.b().sent() <= sent_b {
         None
     } else {
-        ends.too_wide()
+        ends.outstanding()
+    }
+}
+
+/// Why a step is refused that makes a span too wide.
+fn refused(span: Outstanding) -> WorldFault
+    ensures { result ≡ fault_of span }
+{
+    WorldFault::Outstanding {
+        end: span.end,
+        link: span.link,
+        protocol: span.protocol,
+        sent: span.sent,
+        oldest: span.oldest,
     }
 }
 
 /// Does the step of that number.
 fn advance(ends: &mut TwoEnds, number: u32, step: Step) -> Result<(), Memory>
-    requires counted { IsCounted ends.old number }
-    ensures done { OnOk result (ends.new ≡ moved number ends.old (step_seen step)) }
+    requires kept { AreKept ends.old }
+    requires few_a { ends.old.a.ledger.n < 2 ^ 63 }
+    requires few_b { ends.old.b.ledger.n < 2 ^ 63 }
+    ensures settings { settings_of ends.new ≡ settings_of ends.old }
+    ensures done { OnOk result (duet_seen ends.new ≡ moved (settings_of ends.old) number (duet_seen ends.old) step) }
+    ensures kept { OnOk result (AreKept ends.new) }
 {
     match step {
-        Step::Happens(at, what) => ends.happens(at, what, word_at(at, number)),
+        Step::Happens(at, what) => ends.happens(at, what, number),
         Step::Reports | Step::Rests => Ok(()),
     }
 }
 
-/// The word of the step of that number at an end.
-fn word_at(at: End, number: u32) -> u64
-    ensures { result ≡ word_of (side_of at) number }
-{
-    match at {
-        End::A => 2 * u64::from(number),
-        End::B => 2 * u64::from(number) + 1,
-    }
-}
-
 /// Writes what is reported after the step of that number.
-fn show(
-    report: &mut Vec<u8>,
-    number: u32,
-    step: Step,
-    ends: &TwoEnds,
-    alloc: Global,
-) -> Result<(), Memory>
-    ensures { OnOk result (report.new.items ≡ report.old.items ++ shown (record { number = number; step = step_seen step; after = ends.now }) (step_seen step)) }
+fn show(report: &mut String, number: u32, step: Step, ends: &TwoEnds) -> Result<(), Memory>
+    ensures { OnOk result (string_bytes report.new ≡ string_bytes report.old ++ shown_at number (duet_seen ends.now) step) }
 {
     match step {
-        Step::Reports => write_show(report, number, ends, alloc),
+        Step::Reports => write_show(report, number, ends),
         Step::Happens(_, _) | Step::Rests => Ok(()),
     }
 }

@@ -1,10 +1,13 @@
-use Rattle.ppp_duet.proofs.Agreement.{agreement}
+use Rattle.ppp_duet.specs.Terms.{terms_of}
+use Rattle.ppp_duet.proofs.AgreementLemmas.{agreement}
+use Rattle.ppp_duet.proofs.TermsLemmas.{used}
 use Rattle.ppp_duet.proofs.laws.agreement.Goals as goal
 
 pub returns : goal.returns
-returns g c =
+returns g c first_a first_b =
+    let m = g.T.OptionTable in
     let a = c.args.a.now in
     let b = c.args.b.now in
-    let m = g.T.OptionTable in
-    let laws = g.met.T.OptionTable in
-    agreement (m.table a) (m.table b) (m.sendable a) (m.sendable b) (m.unknown a) (m.unknown b) (m.allows a) (m.allows b) m.compat (laws.lawful a) (laws.lawful b)
+    let ta = terms_of m.table m.sendable m.unknown m.allows a first_a in
+    let tb = terms_of m.table m.sendable m.unknown m.allows b first_b in
+    agreement m.compat ta tb (used m.compat ta (g.met.T.OptionTable.lawful a)) (used m.compat tb (g.met.T.OptionTable.lawful b))

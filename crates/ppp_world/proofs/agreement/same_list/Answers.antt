@@ -1,4 +1,4 @@
-use Rattle.ppp_world.proofs.Stepping.{same_test}
+use Rattle.ppp_world.proofs.AgreementLemmas.{same_test}
 use Rattle.ppp_world.proofs.agreement.same_list.Goals as goal
 
 pub returns : goal.returns

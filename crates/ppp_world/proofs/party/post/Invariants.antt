@@ -1,7 +1,11 @@
 use Rattle.std.proofs.Common.{◌+◌, ◌≤◌, drop, length}
-use Rattle.ppp_world.specs.Steps.{queue_room}
-use Rattle.ppp_world.proofs.Entries.{Left}
+use Rattle.ppp_world.specs.declared.queue.TheConstants.{ROOM}
+use Rattle.ppp_world.proofs.PartyLemmas.{Left}
 use Rattle.ppp_world.proofs.party.post.Given as goal
 
 abbrev pub invariant-loop-i : goal.invariant-loop-i
-invariant-loop-i l = (l.posted.sent ≤ l.sent + l.i) × (length l.queue ≤ queue_room) × Left l.out l.sent l.mark l.initial.queue l.posted.sent l.posted.acked l.queue (drop l.i l.out)
+invariant-loop-i l = record {
+  few : l.ledger.n ≤ l.initial.ledger.n + l.i;
+  room : length l.queue ≤ ROOM;
+  left : Left l.out l.initial.ledger l.mark l.initial.queue l.ledger l.queue (drop l.i l.out);
+}

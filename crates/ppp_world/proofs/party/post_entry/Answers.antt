@@ -1,4 +1,4 @@
-use Rattle.ppp_world.proofs.Entries.{queue-stays}
+use Rattle.ppp_world.proofs.PartyLemmas.{queue-stays}
 use Rattle.ppp_world.proofs.party.post_entry.Goals as goal
 
 pub returns-in-Signal-clause-queue : goal.returns-in-Signal-clause-queue

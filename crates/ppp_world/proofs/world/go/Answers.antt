@@ -1,20 +1,24 @@
-use Rattle.ppp_world.specs.StepViews.{step_seen}
-use Rattle.std.proofs.Common.{◌≡◌, ◌+◌, arith}
-use Rattle.ppp_world.proofs.Agreeing.{led_on, still_none}
-use Rattle.ppp_world.proofs.Leading.{none_wide}
-use Rattle.ppp_world.proofs.Stepping.{moved_counted}
+use Rattle.std.proofs.Common.{◌≡◌, ◌∙◌, sym, arith, None, Some}
+use Rattle.ppp_world.proofs.WorldLemmas.{done_as, led_on, oldest_on, refused_as, still_on}
 use Rattle.ppp_world.proofs.world.go.Goals as goal
 
-pub returns-clause-counted : goal.returns-clause-counted
-returns-clause-counted c = moved_counted _ c.args.ends.now c.advance.new.ends c.args.step c.args.steps.now c.requires.counted c.in-Ok.ensures.done
+pub wider_since-requires-clause-oldest : goal.wider_since-requires-clause-oldest
+wider_since-requires-clause-oldest c = oldest_on c.args.ends.now c.advance.new.ends c.args.steps.now c.args.step c.requires.led c.in-Ok.ensures.done
+
+pub wider_since-requires-clause-still : goal.wider_since-requires-clause-still
+wider_since-requires-clause-still c =
+    let a : c.sent-sent_a.result ≡ c.args.ends.now.a.ledger.n = cc in
+    let b : c.sent-sent_b.result ≡ c.args.ends.now.b.ledger.n = cc in
+    λ none_a none_b. still_on c.args.ends.now c.advance.new.ends c.args.steps.now c.args.step c.requires.led c.in-Ok.ensures.done (omega (arith, a, none_a)) (omega (arith, b, none_b))
+
+pub returns-in-Some-clause-done : goal.returns-in-Some-clause-done
+returns-in-Some-clause-done c =
+    rw c.refused.ensures (refused_as c.args.ends.now c.advance.new.ends c.args.steps.now _ c.args.step c.in-Some.fault c.advance.ensures.settings c.in-Ok.ensures.done (sym c.wider_since.ensures ∙ c.in-Some.is))
+
+pub returns-clause-done : goal.returns-clause-done
+returns-clause-done c =
+    done_as c.args.ends.now c.advance.new.ends c.args.steps.now _ _ c.args.step c.advance.ensures.settings c.in-Ok.ensures.done (sym c.wider_since.ensures ∙ c.in_default.is) c.in-Ok-show.ensures
 
 pub returns-clause-led : goal.returns-clause-led
 returns-clause-led c =
-    led_on (c.args.steps.now + 1) c.args.ends.now c.advance.new.ends (step_seen c.args.step) c.requires.led c.in-Ok.ensures.done
-    (none_wide c.wider_since.result _ c.wider_since.ensures c.in_default.is)
-
-pub wider_since-requires : goal.wider_since-requires
-wider_since-requires c =
-    let a : c.sent-sent_a.result ≡ c.args.ends.now.a.n = cc in
-    let b : c.sent-sent_b.result ≡ c.args.ends.now.b.n = cc in
-    λ none_a none_b. still_none (c.args.steps.now + 1) c.args.ends.now c.advance.new.ends (step_seen c.args.step) c.requires.led c.in-Ok.ensures.done (omega (arith, a)) (omega (arith, b))
+    led_on c.args.ends.now c.advance.new.ends c.args.steps.now c.args.step c.requires.led c.advance.ensures.settings c.in-Ok.ensures.kept c.in-Ok.ensures.done (sym c.wider_since.ensures ∙ c.in_default.is)

@@ -1,5 +1,5 @@
 use Rattle.std.proofs.Common.{arith, sym}
-use Rattle.ppp_world.proofs.Queues.{without-none, without-place, without-beyond}
+use Rattle.ppp_world.proofs.QueueLemmas.{without-none, without-place, without-beyond}
 use Rattle.ppp_world.proofs.queue.Queue.lose.Goals as goal
 
 pub returns-then-place-eq0 : goal.returns-then-place-eq0

@@ -1,5 +1,5 @@
 use Rattle.std.proofs.Common.{◌<◌, length, arith}
-use Rattle.ppp_world.proofs.Queues.{full, roomy}
+use Rattle.ppp_world.proofs.QueueLemmas.{full, roomy}
 use Rattle.ppp_world.proofs.queue.Queue.push.Goals as goal
 
 pub returns-then-len-ge-ROOM-clause-ok : goal.returns-then-len-ge-ROOM-clause-ok

@@ -1,4 +1,4 @@
-use Rattle.ppp_world.proofs.Stepping.{SettlesOn}
+use Rattle.ppp_world.proofs.WorldLemmas.{SettlesOn}
 use Rattle.ppp_world.proofs.world.World.settle.Given as goal
 
 abbrev pub invariant-loop-i : goal.invariant-loop-i

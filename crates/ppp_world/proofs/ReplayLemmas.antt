@@ -1,0 +1,112 @@
+-- The replay of a script, event by event.
+use Rattle.std.proofs.Common.{◌≡◌, ℕ, ◌+◌, ◌≤◌, List, [], ◌∷◌, refl, sym, ◌∙◌, ap, arith}
+use Rattle.std.specs.Prelude.{Option, Some, None, Result, Ok, Err, IfOk, IsSome}
+use Rattle.std.proofs.lemmas.List.Sums.{sum_by-cons}
+use Rattle.ppp_script.specs.Events.{steps_in, steps_in_all}
+use Rattle.ppp_script.specs.declared.event.End.{End}
+use Rattle.ppp_script.specs.declared.event.Event.{Event}
+use Rattle.ppp_world.specs.Refusal.{refusal_in}
+use Rattle.ppp_world.specs.Run.{run_from, run_of, place_begun, report, refusal, before_refusal}
+use Rattle.ppp_world.specs.Settings.{Settings}
+use Rattle.ppp_world.specs.World.{World, world_begun, world_after, answer_of, fault_of, place_of, UnlessMemory}
+use Rattle.ppp_world.specs.declared.outstanding.Outstanding.{Outstanding as Outstanding'}
+use Rattle.ppp_world.specs.declared.refusal.Refusal.{Refusal}
+use Rattle.ppp_world.specs.declared.world_fault.WorldFault.{WorldFault}
+use Rattle.ppp_world.specs.declared.world_fault.WorldFault.TheVariants.{Memory, Outstanding}
+use Rattle.ppp_world.proofs.RunLemmas.{linked_run}
+use Rattle.ppp_world.proofs.WorldLemmas.{world_after_all, run_is, becomes, Becomes, halt_of, halted_moments, IsNextAfter, before_refusal-none}
+
+follows : (s : Settings) (events : List Event) → Becomes (world_begun s) (run_of s events) (world_after_all (world_begun s) events)
+follows s events = rw (run_is events (world_begun s)) (becomes s (run_of s events) (world_begun s) refl (linked_run s (place_begun s) events))
+
+halted_all : (w : World) (events : List Event) (fault : WorldFault) → w.halt ≡ Some fault → world_after_all w events ≡ w
+halted_all w events fault is = run_is events w ∙ halted_moments w (run_from w.settings (place_of w) events) fault is
+
+-- what the events that are left come to
+pub record ReplaysOn (s : Settings) (all : List Event) (now : World) (rest : List Event) : Type 0 where
+  pub same : world_after_all (world_begun s) all ≡ world_after_all now rest
+  pub going : now.halt ≡ None
+  pub room : now.steps + steps_in_all rest ≤ 100000
+
+pub replays_first : (s : Settings) (all : List Event) → steps_in_all all ≤ 100000 → ReplaysOn s all (world_begun s) all
+replays_first s all few = record { same = refl; going = refl; room = omega arith }
+
+going_answer : (o : Option WorldFault) → Ok tt ≡ answer_of o → o ≡ None
+going_answer None is = refl
+going_answer (Some fault) is = absurd (cc)
+
+done_if : (o : Option WorldFault) {P : Type 0} → o ≡ None → UnlessMemory o P → P
+done_if None is p = p
+done_if (Some fault) is p = absurd (cc)
+
+refused_if : (o : Option WorldFault) {P : Type 0} (e : End) (link protocol sent oldest : ℕ) → o ≡ Some (Outstanding e link protocol sent oldest) → UnlessMemory o P → P
+refused_if None e link protocol sent oldest is p = absurd (cc)
+refused_if (Some Memory) e link protocol sent oldest is p = absurd (cc)
+refused_if (Some (Outstanding end l proto s o)) e link protocol sent oldest is p = p
+
+pub replays_room : (s : Settings) (all : List Event) (now : World) (rest more : List Event) (event : Event) → rest ≡ event ∷ more → ReplaysOn s all now rest → now.steps + steps_in event ≤ 100000
+replays_room s all now rest more event is far = let room = rw is at far.room in omega (arith, room, sum_by-cons steps_in event more)
+
+pub replays_next : (s : Settings) (all : List Event) (now next : World) (rest more : List Event) (event : Event) (answer : Result (Unit {0}) WorldFault) → rest ≡ event ∷ more →
+    answer ≡ answer_of next.halt → answer ≡ Ok tt → UnlessMemory next.halt (next ≡ world_after now event) → next.steps ≤ now.steps + steps_in event →
+    ReplaysOn s all now rest → ReplaysOn s all next more
+replays_next s all now next rest more event answer is answers ok done steps far =
+    let going = going_answer next.halt (sym ok ∙ answers) in
+    let room = rw is at far.room in
+    record {
+      same = (rw is at far.same) ∙ ap (λ w. world_after_all w more) (sym (done_if next.halt going done));
+      going = going;
+      room = omega (arith, room, steps, sum_by-cons steps_in event more);
+    }
+
+-- at the end, no step was refused
+no_refusal : (o : Option Refusal) → None ≡ halt_of o → o ≡ None
+no_refusal None is = refl
+no_refusal (Some refused) is = absurd (cc)
+
+pub replays_all : (s : Settings) (all : List Event) (now : World) → ReplaysOn s all now [] →
+    (now.report ≡ report (before_refusal (run_of s all))) × (None ≡ refusal (run_of s all)) × (now.report ≡ report (run_of s all))
+replays_all s all now far =
+    let whole = rw far.same at (follows s all) in
+    let none = no_refusal (refusal (run_of s all)) (sym far.going ∙ whole.halt) in
+    (whole.report, sym none, whole.report ∙ ap report (before_refusal-none (run_of s all) none))
+
+-- at a refusal
+halt_answered : (o : Option WorldFault) (fault : WorldFault) → Err fault ≡ answer_of o → o ≡ Some fault
+halt_answered None fault is = absurd (cc)
+halt_answered (Some other) fault is = cc
+
+the_refusal : (o : Option Refusal) (steps : ℕ) (e : End) (link protocol sent oldest : ℕ) → Some (Outstanding e link protocol sent oldest) ≡ halt_of o → IsNextAfter steps o →
+    refusal_in (steps + 1) (Outstanding e link protocol sent oldest) ≡ o
+the_refusal None steps e link protocol sent oldest is next = absurd (cc)
+the_refusal (Some r) steps e link protocol sent oldest is next = same_refusal r.step r.fault.end r.fault.link r.fault.protocol r.fault.sent r.fault.oldest next (cc) (cc) (cc) (cc) (cc)
+  where
+    same_refusal : (step : ℕ) (e' : End) (l p n m : ℕ) → step ≡ steps + 1 → e' ≡ e → l ≡ link → p ≡ protocol → n ≡ sent → m ≡ oldest →
+        refusal_in (steps + 1) (Outstanding e link protocol sent oldest) ≡ Some (record { step = step; fault = record { end = e'; link = l; protocol = p; sent = n; oldest = m } })
+    same_refusal step e' l p n m a b c d f g = rw (a, b, c, d, f, g) refl
+
+replays_refused : (s : Settings) (all : List Event) (now next : World) (rest more : List Event) (event : Event) (e : End) (link protocol sent oldest : ℕ) → rest ≡ event ∷ more →
+    next.halt ≡ Some (Outstanding e link protocol sent oldest) → UnlessMemory next.halt (next ≡ world_after now event) → ReplaysOn s all now rest →
+    (next.report ≡ report (before_refusal (run_of s all))) × (refusal_in (next.steps + 1) (Outstanding e link protocol sent oldest) ≡ refusal (run_of s all))
+replays_refused s all now next rest more event e link protocol sent oldest is why done far =
+    let did = refused_if next.halt e link protocol sent oldest why done in
+    let same = (rw is at far.same) ∙ ap (λ w. world_after_all w more) (sym did) ∙ halted_all next more (Outstanding e link protocol sent oldest) why in
+    let whole = rw same at (follows s all) in
+    (whole.report, the_refusal (refusal (run_of s all)) next.steps e link protocol sent oldest (sym why ∙ whole.halt) whole.next)
+
+-- however the world refused, what the replay comes to is right, if it comes to something
+pub replays_stopped : (s : Settings) (all : List Event) (now next : World) (rest more : List Event) (event : Event) (answer : Result (Unit {0}) WorldFault) (why : WorldFault) (refused : Option Refusal) → rest ≡ event ∷ more →
+    answer ≡ answer_of next.halt → answer ≡ Err why → UnlessMemory next.halt (next ≡ world_after now event) → ReplaysOn s all now rest → refused ≡ refusal_in (next.steps + 1) why → IsSome refused →
+    (next.report ≡ report (before_refusal (run_of s all))) × (refused ≡ refusal (run_of s all))
+replays_stopped s all now next rest more event answer Memory refused is answers err done far refused_is some = absurd (cc)
+replays_stopped s all now next rest more event answer (Outstanding e link protocol sent oldest) refused is answers err done far refused_is some =
+    let both = replays_refused s all now next rest more event e link protocol sent oldest is (halt_answered next.halt _ (sym err ∙ answers)) done far in
+    (both.0, refused_is ∙ both.1)
+
+pub none_is : {X : Type 0} (o : Option X) → IsSome o → o ≡ None → ⊥
+none_is None some none = absurd (cc)
+none_is (Some x) some none = absurd (cc)
+
+pub if_ok_all : {X E : Type 0} {P Q R S : X → Type 0} (r : Result X E) → IfOk r P → IfOk r Q → IfOk r R → ((x : X) → P x → Q x → R x → S x) → IfOk r S
+if_ok_all (Ok x) p q r all = all x p q r
+if_ok_all (Err e) p q r all = tt

@@ -1,0 +1,87 @@
+-- Whether two ends agree, in a state and in each state of a run.
+use Rattle.std.specs.Prelude.{◌≡◌, ◌≢◌, ◌==◌, ◌&&◌, ℕ, Bool, false, if◌then◌else◌, None, List, Option, Some, All}
+use Rattle.std.specs.Option.{IfSome, option_and_then}
+use Rattle.ppp_packet.specs.ConfigOption.{ConfigOption}
+use Rattle.ppp_packet.specs.declared.proto.Proto.{Proto}
+use Rattle.ppp_packet.specs.declared.proto.Proto.TheVariants.{Lcp}
+use Rattle.ppp_auto.specs.Automaton.{is_opened}
+use Rattle.ppp_auto.specs.Reply.{same_list}
+use Rattle.ppp_auto.specs.declared.auto_state.AutoState.TheVariants.{Opened}
+use Rattle.ppp_duet.specs.Duet.{Duet, End}
+use Rattle.ppp_duet.specs.Agreement.{Agree}
+use Rattle.ppp_world.specs.Lcp.{Sendable, Allows, Compatible, is_sendable, is_allowed, is_compatible}
+use Rattle.ppp_world.specs.declared.agreement.Terms.{Terms as Terms'}
+use Rattle.ppp_world.specs.declared.step.TheConstants.{ONLY_LINK}
+
+-- the two ends of a protocol on a link: there is one link, with one protocol
+abbrev pub duet_of : Proto → Duet → Option Duet
+duet_of Lcp d = Some d
+duet_of other d = None
+
+abbrev pub duet_at : ℕ → Proto → Duet → Option Duet
+duet_at link proto d = if link == ONLY_LINK then duet_of proto d else None
+
+-- what an end has agreed to: the own list, the peer's, and the own one when the peer's was judged
+pub record Terms : Type 0 where
+  pub own : List ConfigOption
+  pub peer : List ConfigOption
+  pub against : List ConfigOption
+
+abbrev pub terms_seen : Terms' → Terms
+terms_seen t = record { own = t.own.now; peer = t.peer.now; against = t.against }
+
+abbrev pub terms_at : End → Terms
+terms_at e = record { own = e.auto.own; peer = e.auto.peer; against = e.against }
+
+-- None where it isn't Opened
+abbrev pub terms_of : End → Option Terms
+terms_of e = if is_opened e.auto.state then Some (terms_at e) else None
+
+-- Whether they pass: each one's list is what the other acknowledged last, may be asked for and was allowed against the
+-- other's list of that moment, and the two lists fit.
+abbrev pub passes : Terms → Terms → Bool
+passes a b =
+    same_list a.own b.peer && same_list b.own a.peer
+    && is_sendable a.own && is_sendable b.own
+    && is_allowed b.against a.own && is_allowed a.against b.own
+    && is_compatible a.own b.own
+
+-- whether two Opened ends agree
+abbrev pub agrees : Duet → Bool
+agrees d = passes (terms_at d.a) (terms_at d.b)
+
+-- None where not both are Opened
+abbrev pub agree_terms : Option Terms → Option Terms → Option Bool
+agree_terms (Some a) (Some b) = Some (passes a b)
+agree_terms (Some a) None = None
+agree_terms None b = None
+
+abbrev pub agree_of : Duet → Option Bool
+agree_of d = agree_terms (terms_of d.a) (terms_of d.b)
+
+-- whether the two ends of a protocol on a link agree: None too where there is none
+abbrev pub agree_at : ℕ → Proto → Duet → Option Bool
+agree_at link proto d = option_and_then agree_of (duet_at link proto d)
+
+-- both automata are Opened
+pub record AreOpened (d : Duet) : Type 0 where
+  pub at_a : d.a.auto.state ≡ Opened
+  pub at_b : d.b.auto.state ≡ Opened
+
+-- both automata of a protocol on a link are
+pub record AreOpenedAt (link : ℕ) (proto : Proto) (d : Duet) : Type 0 where
+  pub duet : Duet
+  pub there : duet_at link proto d ≡ Some duet
+  pub opened : AreOpened duet
+
+-- two Opened ends agree
+abbrev pub AgreesIfOpened : Duet → Type 0
+AgreesIfOpened d = AreOpened d → Agree Sendable Sendable Allows Allows Compatible d
+
+-- In a state two Opened ends of a protocol agree on each link, and no report of it says that they don't.
+pub record AgreesAt (link : ℕ) (proto : Proto) (d : Duet) : Type 0 where
+  pub agree : IfSome (duet_at link proto d) AgreesIfOpened
+  pub told : agree_at link proto d ≢ Some false
+
+abbrev pub AgreesEverywhere : Duet → Type 0
+AgreesEverywhere d = (link : ℕ) (proto : Proto) → AgreesAt link proto d

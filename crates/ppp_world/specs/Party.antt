@@ -1,0 +1,52 @@
+-- An end of the link, and what it comes to.
+use Rattle.std.specs.Prelude.{ℕ, List}
+use Rattle.ppp_auto.specs.Automaton.{Auto, Acted, begun, command, take_in, entries_of}
+use Rattle.ppp_auto.specs.OptionTable.{Table}
+use Rattle.ppp_auto.specs.declared.auto_event.AutoEvent.{AutoEvent}
+use Rattle.ppp_duet.specs.Duet.{End, Marked}
+use Rattle.ppp_world.specs.Lcp.{lcp_table}
+use Rattle.ppp_world.specs.LcpSettings.{LcpSettings}
+use Rattle.ppp_world.specs.Ledger.{Ledger, IsLedgerOf, end_of, heard, ledger_begun, noted_all, packets_in, stamped}
+use Rattle.ppp_world.specs.Settings.{setup_of}
+use Rattle.ppp_world.specs.declared.lcp.LcpTable.{LcpTable}
+
+pub record Party : Type 0 where
+  pub settings : LcpSettings
+  pub auto : Auto
+  pub ledger : Ledger
+
+abbrev pub settings_seen : LcpTable → LcpSettings
+settings_seen t = record { mru = t.mru; magic = t.magic }
+
+-- the table of options that it is
+abbrev pub lcp_of : LcpTable → Table
+lcp_of t = lcp_table (settings_seen t)
+
+abbrev pub party_begun : LcpSettings → Party
+party_begun s = let setup = setup_of s in record { settings = s; auto = begun setup.table setup.first; ledger = ledger_begun }
+
+-- the end that the laws of two ends speak of
+abbrev pub end_seen : Party → End
+end_seen p = end_of p.auto p.ledger
+
+-- its ledger fits its automaton
+abbrev pub IsKept : Party → Type 0
+IsKept p = IsLedgerOf p.auto p.ledger
+
+-- What an end comes to, and what it sends in answer to a packet of that mark.
+abbrev pub party_after : Party → Acted → Party
+party_after p acted = record p { auto = acted.auto; ledger = noted_all p.ledger (packets_in (entries_of acted)) }
+
+abbrev pub sent_by : Party → ℕ → Acted → List Marked
+sent_by p mark acted = stamped p.ledger mark (packets_in (entries_of acted))
+
+-- an event without a packet
+abbrev pub commanded : Party → AutoEvent → ℕ → Acted
+commanded p event word = command (lcp_table p.settings) p.auto event word
+
+-- a packet taken in, and an end that heard of it
+abbrev pub taken : Party → Marked → ℕ → Acted
+taken p m word = take_in (lcp_table p.settings) p.auto m.packet word
+
+abbrev pub party_hearing : Party → Marked → Party
+party_hearing p m = record p { ledger = heard p.ledger p.auto.state m.mark m.packet }

@@ -1,0 +1,56 @@
+-- The refusal of a step.
+use Rattle.std.specs.Prelude.{ℕ, ◌==◌, if◌then◌else◌, List, ◌++◌, Option, Some, None, codes}
+use Rattle.std.specs.Fmt.{decimal}
+use Rattle.ppp_packet.specs.Proto.{proto_number, proto_name}
+use Rattle.ppp_packet.specs.declared.proto.Proto.{Proto}
+use Rattle.ppp_packet.specs.declared.proto.Proto.TheVariants.{Lcp, Ip, Ipv6, Osi, Mpls, Bacp}
+use Rattle.ppp_script.specs.declared.event.End.{End}
+use Rattle.ppp_script.specs.declared.event.End.TheVariants.{A, B}
+use Rattle.ppp_world.specs.declared.outstanding.Outstanding.{Outstanding as Outstanding'}
+use Rattle.ppp_world.specs.declared.refusal.Refusal.{Refusal}
+use Rattle.ppp_world.specs.declared.world_fault.WorldFault.{WorldFault}
+use Rattle.ppp_world.specs.declared.world_fault.WorldFault.TheVariants.{Memory, Outstanding}
+
+abbrev pub end_name : End → List ℕ
+end_name A = codes "a"
+end_name B = codes "b"
+
+-- the protocol of a number, if it is one's
+abbrev pub proto_of : ℕ → Option Proto
+proto_of n =
+    if n == proto_number Lcp then Some Lcp
+    else if n == proto_number Ip then Some Ip
+    else if n == proto_number Ipv6 then Some Ipv6
+    else if n == proto_number Osi then Some Osi
+    else if n == proto_number Mpls then Some Mpls
+    else if n == proto_number Bacp then Some Bacp
+    else None
+
+-- its name, or the number
+abbrev pub named_or : Option Proto → ℕ → List ℕ
+named_or (Some proto) n = proto_name proto
+named_or None n = decimal n
+
+abbrev pub protocol_text : ℕ → List ℕ
+protocol_text n = named_or (proto_of n) n
+
+-- whose requests they are, and how far they span
+unfoldable pub whose_text : Outstanding' → List ℕ
+whose_text o = codes "end " ++ end_name o.end ++ codes " link " ++ decimal o.link ++ codes " " ++ protocol_text o.protocol
+
+unfoldable pub span_text : Outstanding' → List ℕ
+span_text o = codes "sent " ++ decimal o.sent ++ codes " oldest " ++ decimal o.oldest
+
+abbrev pub outstanding_text : Outstanding' → List ℕ
+outstanding_text o = whose_text o ++ codes " " ++ span_text o
+
+abbrev pub refusal_text : Refusal → List ℕ
+refusal_text r = codes "outstanding step " ++ decimal r.step ++ codes " " ++ outstanding_text r.fault
+
+-- the refusal of the step of that number
+abbrev pub refusal_in : ℕ → WorldFault → Option Refusal
+refusal_in step Memory = None
+refusal_in step (Outstanding end link protocol sent oldest) = Some (record {
+  step = step;
+  fault = record { end = end; link = link; protocol = protocol; sent = sent; oldest = oldest };
+})

@@ -1,0 +1,76 @@
+//! The replay of a script.
+
+ghost use Rattle.std.specs.Prelude.{◌≡◌, ◌+◌, ◌≤◌, None, IsSome, IfOk};
+ghost use Rattle.ppp_world.specs.Refusal.{refusal_in};
+ghost use Rattle.ppp_world.specs.Run.{before_refusal, refusal, report, run_of, AgreesThroughout};
+ghost use Rattle.ppp_world.specs.Settings.{default_settings};
+
+use crate::outstanding::Outstanding;
+use crate::refusal::Refusal;
+use crate::world::World;
+use crate::world_fault::WorldFault;
+use ppp_auto::Memory;
+use ppp_script::Script;
+use std::alloc::Global;
+
+/// What a replay comes to: the report of the steps that were done, and the first step that is refused, if there is one.
+#[derive(Drop)]
+pub struct Replayed {
+    /// The report of the steps that were done.
+    pub report: Vec<u8>,
+    /// The step that was refused.
+    pub refused: Option<Refusal>,
+}
+
+/// Replays a script, up to the first step that is refused. In every state of its run two Opened ends agree, on each link
+/// and in each protocol.
+pub fn replay(alloc: Global, script: &Script) -> Result<Replayed, Memory>
+    ensures report { IfOk result (λ replayed. replayed.report.items ≡ report (before_refusal (run_of default_settings script.now))) }
+    ensures refused { IfOk result (λ replayed. replayed.refused ≡ refusal (run_of default_settings script.now)) }
+    ensures whole { IfOk result (λ replayed. replayed.refused ≡ None → replayed.report.items ≡ report (run_of default_settings script.now)) }
+    ensures agreement { AgreesThroughout (before_refusal (run_of default_settings script.now)) }
+{
+    let mut world = World::new(alloc)?;
+    for i in 0..script.count() {
+        match world.step(script.at(i)) {
+            Ok(()) => {}
+            Err(fault) => return stopped(world, fault),
+        }
+    }
+    Ok(Replayed {
+        report: world.into_report(),
+        refused: None,
+    })
+}
+
+/// What a replay comes to that a world ended by refusing a step.
+fn stopped(world: World, fault: WorldFault) -> Result<Replayed, Memory>
+    requires { world.steps ≤ 100000 }
+    ensures report { IfOk result (λ replayed. replayed.report.items ≡ world.report) }
+    ensures refused { IfOk result (λ replayed. replayed.refused ≡ refusal_in (world.steps + 1) fault) }
+    ensures some { IfOk result (λ replayed. IsSome replayed.refused) }
+{
+    let step = world.steps() + 1;
+    match fault {
+        WorldFault::Memory => Err(Memory),
+        WorldFault::Outstanding {
+            end,
+            link,
+            protocol,
+            sent,
+            oldest,
+        } => Ok(Replayed {
+            report: world.into_report(),
+            refused: Some(Refusal {
+                step,
+                fault: Outstanding {
+                    end,
+                    link,
+                    protocol,
+                    sent,
+                    oldest,
+                },
+            }),
+        }),
+    }
+}
