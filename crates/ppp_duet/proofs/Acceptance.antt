@@ -4,7 +4,8 @@ use Rattle.ppp_packet.specs.ConfigOption.{ConfigOption}
 use Rattle.ppp_auto.specs.declared.verdict.Verdict.{Verdict}
 use Rattle.ppp_auto.specs.declared.verdict.Verdict.TheVariants.{Good, Bad, Unknown}
 use Rattle.ppp_auto.specs.declared.input.Input.TheVariants.{ReceiveConfigureRequestGood}
-use Rattle.ppp_auto.specs.Reply.{has_kind, is_refused, rejected, better_of, suggested, as_list, unacceptable, refusing, reply_with, reply_to, fitting, reject_room, max_failure}
+use Rattle.ppp_auto.specs.Reply.{has_kind, is_refused, rejected, better_of, suggested, unacceptable, refusing, reply_with, reply_to, fitted, is_spent}
+use Rattle.std.specs.Option.{option_to_list}
 use Rattle.ppp_auto.specs.Lawful.{AllGood, NoneTwice, Passes}
 use Rattle.ppp_auto.specs.Packet.{Packet, Request, Ack, Nak, Reject, Other}
 use Rattle.ppp_auto.specs.OptionTable.{Table}
@@ -40,7 +41,7 @@ clean t own word earlier (o ∷ os) r s =
     let rest = clean t own word (earlier ++ o ∷ []) os first.1 good.1 in
     record { good = (good.0, rest.good); once = (fine.0, rest.once) }
 
-none_listed : (o : Option ConfigOption) → as_list o ≡ [] → o ≡ None
+none_listed : (o : Option ConfigOption) → option_to_list o ≡ [] → o ≡ None
 none_listed None e = refl
 none_listed (Some o) e = cc
 
@@ -58,7 +59,7 @@ accepted naks id theirs (o ∷ refused) better missing bad e = cc
 pub accepted_passes : (t : Table) (own : List ConfigOption) (naks word id : ℕ) (theirs : List ConfigOption) → (reply_to t own naks word id theirs).input ≡ ReceiveConfigureRequestGood → Passes t own theirs word
 accepted_passes t own naks word id theirs e =
     let judge : ConfigOption → Verdict = λ o. t.judge own o word in
-    let empty = accepted naks id theirs (rejected judge [] theirs) (suggested judge theirs) (as_list (t.missing own theirs word)) (unacceptable judge theirs) e in
+    let empty = accepted naks id theirs (rejected judge [] theirs) (suggested judge theirs) (option_to_list (t.missing own theirs word)) (unacceptable judge theirs) e in
     let fine = clean t own word [] theirs empty.0 empty.1 in
     record { good = fine.good; once = fine.once; whole = none_listed (t.missing own theirs word) empty.2 }
 
@@ -70,14 +71,14 @@ request_with : (naks id : ℕ) (theirs refused better missing bad : List ConfigO
 request_with naks id theirs [] [] [] bad = refl
 request_with naks id theirs [] [] (o ∷ missing) bad = refl
 request_with naks id theirs [] (o ∷ better) missing bad =
-    request_if (nat_le max_failure naks) (Reject id (fitting reject_room bad)) (Nak id ((o ∷ better) ++ missing))
+    request_if (is_spent naks) (Reject id (fitted bad)) (Nak id ((o ∷ better) ++ missing))
 request_with naks id theirs (o ∷ refused) better missing bad = refl
 
 -- a request is one of the two events of the table
 pub request_to : (t : Table) (own : List ConfigOption) (naks word id : ℕ) (theirs : List ConfigOption) → is_request (reply_to t own naks word id theirs).input ≡ true
 request_to t own naks word id theirs =
     let judge : ConfigOption → Verdict = λ o. t.judge own o word in
-    request_with naks id theirs (rejected judge [] theirs) (suggested judge theirs) (as_list (t.missing own theirs word)) (unacceptable judge theirs)
+    request_with naks id theirs (rejected judge [] theirs) (suggested judge theirs) (option_to_list (t.missing own theirs word)) (unacceptable judge theirs)
 
 -- An answer to a packet of that mark is no request, and an Ack has the Identifier of the request.
 abbrev pub Answering : ℕ → ℕ → ℕ → Packet → Type 0
@@ -97,14 +98,14 @@ answer_with : (first got mark naks id : ℕ) (theirs refused better missing bad 
 answer_with first got mark naks id theirs [] [] [] bad e h = (e, h)
 answer_with first got mark naks id theirs [] [] (o ∷ missing) bad e h = tt
 answer_with first got mark naks id theirs [] (o ∷ better) missing bad e h =
-    answer_if first got mark (nat_le max_failure naks) (Reject id (fitting reject_room bad)) (Nak id ((o ∷ better) ++ missing)) tt tt
+    answer_if first got mark (is_spent naks) (Reject id (fitted bad)) (Nak id ((o ∷ better) ++ missing)) tt tt
 answer_with first got mark naks id theirs (o ∷ refused) better missing bad e h = tt
 
 pub answer_to : (t : Table) (own : List ConfigOption) (first got mark naks word id : ℕ) (theirs : List ConfigOption) → id ≡ id_of first mark → mark ≤ got →
     Answering first got mark (reply_to t own naks word id theirs).answer
 answer_to t own first got mark naks word id theirs e h =
     let judge : ConfigOption → Verdict = λ o. t.judge own o word in
-    answer_with first got mark naks id theirs (rejected judge [] theirs) (suggested judge theirs) (as_list (t.missing own theirs word)) (unacceptable judge theirs) e h
+    answer_with first got mark naks id theirs (rejected judge [] theirs) (suggested judge theirs) (option_to_list (t.missing own theirs word)) (unacceptable judge theirs) e h
 
 -- a request is never answered by a request
 abbrev pub IsReply : Packet → Type 0
@@ -122,10 +123,10 @@ reply_is : (naks id : ℕ) (theirs refused better missing bad : List ConfigOptio
 reply_is naks id theirs [] [] [] bad = tt
 reply_is naks id theirs [] [] (o ∷ missing) bad = tt
 reply_is naks id theirs [] (o ∷ better) missing bad =
-    reply_if (nat_le max_failure naks) (Reject id (fitting reject_room bad)) (Nak id ((o ∷ better) ++ missing)) tt tt
+    reply_if (is_spent naks) (Reject id (fitted bad)) (Nak id ((o ∷ better) ++ missing)) tt tt
 reply_is naks id theirs (o ∷ refused) better missing bad = tt
 
 pub reply_to_is : (t : Table) (own : List ConfigOption) (naks word id : ℕ) (theirs : List ConfigOption) → IsReply (reply_to t own naks word id theirs).answer
 reply_to_is t own naks word id theirs =
     let judge : ConfigOption → Verdict = λ o. t.judge own o word in
-    reply_is naks id theirs (rejected judge [] theirs) (suggested judge theirs) (as_list (t.missing own theirs word)) (unacceptable judge theirs)
+    reply_is naks id theirs (rejected judge [] theirs) (suggested judge theirs) (option_to_list (t.missing own theirs word)) (unacceptable judge theirs)

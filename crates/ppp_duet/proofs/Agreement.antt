@@ -3,7 +3,7 @@ use Rattle.std.proofs.Common.{◌≡◌, ℕ, ⊎_elim, true, Some, List, sym}
 use Rattle.ppp_packet.specs.ConfigOption.{ConfigOption}
 use Rattle.ppp_auto.specs.declared.auto_state.AutoState.{AutoState}
 use Rattle.ppp_auto.specs.declared.auto_state.AutoState.TheVariants.{Opened}
-use Rattle.ppp_auto.specs.Automaton.{Auto, is_heard, has_acked, mine_of, peer_of}
+use Rattle.ppp_auto.specs.Auto.{Auto, is_heard, has_acked, mine_of, peer_of}
 use Rattle.ppp_duet.specs.Duet.{Duet, Setup, Event, run, start}
 use Rattle.ppp_auto.specs.Lawful.{Lawful}
 use Rattle.ppp_auto.specs.OptionTable.{Table}

@@ -4,8 +4,11 @@ use Rattle.ppp_packet.specs.ConfigOption.{ConfigOption}
 use Rattle.ppp_auto.specs.declared.auto_event.AutoEvent.{AutoEvent}
 use Rattle.ppp_auto.specs.declared.auto_event.AutoEvent.TheVariants as event
 use Rattle.ppp_auto.specs.declared.input.Input.TheVariants.{Down, ReceiveConfigureAck, TimeoutAboveZero, TimeoutExpired}
-use Rattle.ppp_auto.specs.Automaton.{Auto, taken_as, input_of, is_heard, has_acked, begins_anew, does_row}
-use Rattle.ppp_duet.specs.Duet.{End, Marked, Duet, Setup, Side, A, B, Happening, Commands, SetsCap, RejectsProtocol, Delivers, Loses, Reboots, Event, does, takes, got_after, is_off, requests, request_mark, without, turned, end_begun, start, delivers, commands, reboots, at_first, at_side, happens, run, span_of, widest}
+use Rattle.ppp_auto.specs.Auto.{Auto, is_heard, has_acked, begins_anew}
+use Rattle.ppp_auto.specs.Taken.{taken_as, input_of}
+use Rattle.ppp_auto.specs.Automaton.{does_row}
+use Rattle.ppp_duet.specs.Duet.{End, Marked, Duet, Setup, Side, A, B, Happening, Commands, SetsCap, RejectsProtocol, Delivers, Loses, Reboots, Event, does, takes, got_after, requests, request_mark, without, turned, end_begun, start, delivers, commands, reboots, at_first, at_side, happens, run, span_of, widest}
+use Rattle.ppp_auto.specs.Auto.{is_off}
 use Rattle.ppp_auto.specs.Packet.{Packet, Request, Ack, Nak, Reject, Other}
 use Rattle.ppp_auto.specs.EventTable.{cell_of, asks}
 use Rattle.ppp_duet.specs.TwoEnds.{NarrowIfTaken, IsNarrowWhereTaken}

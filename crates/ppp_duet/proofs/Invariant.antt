@@ -1,7 +1,7 @@
 -- What holds of two ends in every state of a run.
 use Rattle.std.proofs.Common.{◌≡◌, ℕ, ◌+◌, ◌%◌, ◌≤◌, ◌⊎◌, true, List}
 use Rattle.ppp_packet.specs.ConfigOption.{ConfigOption}
-use Rattle.ppp_auto.specs.Automaton.{is_heard, has_acked}
+use Rattle.ppp_auto.specs.Auto.{is_heard, has_acked}
 use Rattle.ppp_duet.specs.Duet.{End, Marked, Duet, requests}
 use Rattle.ppp_auto.specs.Packet.{Packet, Request, Ack, Nak, Reject, Other}
 use Rattle.ppp_duet.proofs.Arithmetic.{id_of}

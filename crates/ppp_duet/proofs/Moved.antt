@@ -2,7 +2,7 @@
 use Rattle.std.proofs.Common.{◌≡◌, ℕ, ◌+◌, ◌%◌, ◌≤◌, ◌<◌, ◌⊎◌, inl, inr, true, false, List, ◌++◌, sym, ◌∙◌, arith}
 use Rattle.std.proofs.Math.Logic.{⊎_map}
 use Rattle.ppp_packet.specs.ConfigOption.{ConfigOption}
-use Rattle.ppp_auto.specs.Automaton.{is_heard, has_acked, is_opened}
+use Rattle.ppp_auto.specs.Auto.{is_heard, has_acked, is_opened}
 use Rattle.ppp_duet.specs.Duet.{End, Marked, requests}
 use Rattle.ppp_auto.specs.Packet.{Packet, Request, Ack, Nak, Reject, Other}
 use Rattle.ppp_duet.proofs.Arithmetic.{id_of}

@@ -2,7 +2,7 @@
 use Rattle.std.proofs.Common.{◌≡◌, ℕ, inr, true, List, [], ◌∷◌, ◌++◌, refl, sym, ap, subst, ◌∙◌}
 use Rattle.ppp_packet.specs.ConfigOption.{ConfigOption}
 use Rattle.ppp_auto.specs.declared.auto_state.AutoState.TheVariants.{Opened}
-use Rattle.ppp_auto.specs.Automaton.{has_acked}
+use Rattle.ppp_auto.specs.Auto.{has_acked}
 use Rattle.ppp_duet.specs.Duet.{End, Duet, Marked, Setup, Side, Event, happens, run, start}
 use Rattle.ppp_auto.specs.Lawful.{Lawful}
 use Rattle.ppp_auto.specs.Packet.{Packet, Request, Ack, Nak, Reject, Other}

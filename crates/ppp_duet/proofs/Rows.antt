@@ -6,8 +6,12 @@ use Rattle.ppp_auto.specs.declared.input.Input.{Input}
 use Rattle.ppp_auto.specs.declared.input.Input.TheVariants.{ReceiveConfigureRequestGood, ReceiveConfigureAck}
 use Rattle.ppp_auto.specs.declared.action.Action.{Action}
 use Rattle.ppp_auto.specs.declared.action.Action.TheVariants.{ThisLayerUp, ThisLayerDown, ThisLayerStarted, ThisLayerFinished, InitializeRestartCount, ZeroRestartCount, SendConfigureRequest, RepeatConfigureRequest, SendConfigureAck, SendConfigureNak, SendTerminateRequest, SendTerminateAck, SendCodeReject, SendEchoReply}
-use Rattle.ppp_auto.specs.Automaton.{Auto, last_id, Taken, is_heard, has_acked, is_idle, is_opened, is_stopped, begins_anew, judging, does_row, after, Effect, answering, effects}
-use Rattle.ppp_duet.specs.Duet.{End, Marked, Setup, does, marked, is_off}
+use Rattle.ppp_auto.specs.Auto.{Auto, last_id, is_heard, has_acked, is_idle, is_opened, is_stopped, begins_anew}
+use Rattle.ppp_auto.specs.Taken.{Taken, judging}
+use Rattle.ppp_auto.specs.Automaton.{does_row, after, answering, effects}
+use Rattle.ppp_auto.specs.Outbox.{Effect}
+use Rattle.ppp_duet.specs.Duet.{End, Marked, Setup, does, marked}
+use Rattle.ppp_auto.specs.Auto.{is_off}
 use Rattle.ppp_auto.specs.Packet.{Packet, Request, Ack, Nak, Reject, Other}
 use Rattle.ppp_auto.specs.EventTable.{cell_of, asks, acks}
 use Rattle.ppp_auto.specs.OptionTable.{Table}

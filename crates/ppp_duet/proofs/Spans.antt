@@ -5,7 +5,10 @@ use Rattle.ppp_auto.specs.declared.input.Input.{Input}
 use Rattle.ppp_auto.specs.declared.input.Input.TheVariants.{ReceiveTerminateRequest, ReceiveTerminateAck, ReceiveEcho}
 use Rattle.ppp_auto.specs.declared.action.Action.{Action}
 use Rattle.ppp_auto.specs.declared.action.Action.TheVariants.{ThisLayerUp, ThisLayerDown, ThisLayerStarted, ThisLayerFinished, InitializeRestartCount, ZeroRestartCount, SendConfigureRequest, RepeatConfigureRequest, SendConfigureAck, SendConfigureNak, SendTerminateRequest, SendTerminateAck, SendCodeReject, SendEchoReply}
-use Rattle.ppp_auto.specs.Automaton.{Auto, Taken, taken_as, input_of, judging, is_nak_of, is_reject_of, nak_taken, four_octets, code_reject_input, rejected_protocol, echo_answer, unknown_taken, extended_taken, is_extended_code, kind, does_row, after, Effect, answering, effects}
+use Rattle.ppp_auto.specs.Auto.{Auto}
+use Rattle.ppp_auto.specs.Taken.{Taken, taken_as, input_of, judging, is_nak_of, is_reject_of, nak_taken, four_octets, code_reject_input, rejected_protocol, echo_answer, unknown_taken, extended_taken, is_extended_code, kind}
+use Rattle.ppp_auto.specs.Automaton.{does_row, after, answering, effects}
+use Rattle.ppp_auto.specs.Outbox.{Effect}
 use Rattle.ppp_duet.specs.Duet.{End, Marked, Duet, Setup, Side, A, B, Happening, Commands, SetsCap, RejectsProtocol, Delivers, Loses, Reboots, Event, marked, does, does_if, start, takes, got_after, requests, request_mark, answers, answer_mark, least, without, turned, delivers, reboots, at_first, at_side, happens, Narrow, span_of, widest}
 use Rattle.ppp_auto.specs.Reply.{reply_to}
 use Rattle.ppp_auto.specs.Packet.{Packet, Request, Ack, Nak, Reject, Other}

@@ -4,8 +4,10 @@ use Rattle.std.proofs.lemmas.Bool.Decides.{nat_tests}
 use Rattle.ppp_packet.specs.ConfigOption.{ConfigOption}
 use Rattle.ppp_auto.specs.declared.input.Input.{Input}
 use Rattle.ppp_auto.specs.declared.input.Input.TheVariants.{ReceiveConfigureAck, ReceiveConfigureNak, ReceiveTerminateRequest, ReceiveTerminateAck, ReceiveUnknownCode, ReceiveRejectPermitted, ReceiveRejectCatastrophic, ReceiveEcho}
-use Rattle.ppp_auto.specs.Automaton.{last_id, Taken, taken_as, is_idle, is_heard, is_stopped, judging, is_ack_of, is_nak_of, is_reject_of, nak_taken, code_reject_input, rejected_protocol, four_octets, echo_answer, unknown_taken, extended_taken, is_extended_code, kind}
-use Rattle.ppp_duet.specs.Duet.{End, Marked, Setup, does, does_if, takes, got_after, is_off}
+use Rattle.ppp_auto.specs.Auto.{last_id, is_idle, is_heard, is_stopped}
+use Rattle.ppp_auto.specs.Taken.{Taken, taken_as, judging, is_ack_of, is_nak_of, is_reject_of, nak_taken, code_reject_input, rejected_protocol, four_octets, echo_answer, unknown_taken, extended_taken, is_extended_code, kind}
+use Rattle.ppp_duet.specs.Duet.{End, Marked, Setup, does, does_if, takes, got_after}
+use Rattle.ppp_auto.specs.Auto.{is_off}
 use Rattle.ppp_auto.specs.Reply.{reply_to, same_list}
 use Rattle.ppp_auto.specs.Packet.{Packet, Request, Ack, Nak, Reject, Other}
 use Rattle.ppp_duet.proofs.Acceptance.{accepted_passes, answer_to, request_to}

@@ -2,7 +2,7 @@
 use Rattle.std.proofs.Common.{◌≡◌, ℕ, ◌≤◌, ◌<◌, ◌⊎◌, inl, inr, ⊎_elim, true, false, List, arith}
 use Rattle.std.proofs.Math.Logic.{⊎_map}
 use Rattle.ppp_packet.specs.ConfigOption.{ConfigOption}
-use Rattle.ppp_auto.specs.Automaton.{is_heard, is_opened}
+use Rattle.ppp_auto.specs.Auto.{is_heard, is_opened}
 use Rattle.ppp_duet.specs.Duet.{End, Marked}
 use Rattle.ppp_duet.proofs.Cells.{is_low, low_not_opened, opened_heard}
 use Rattle.ppp_duet.proofs.Moved.{Moved}

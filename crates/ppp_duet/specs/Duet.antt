@@ -7,7 +7,10 @@ use Rattle.ppp_auto.specs.declared.auto_state.AutoState.TheVariants.{Initial, St
 use Rattle.ppp_auto.specs.declared.auto_event.AutoEvent.{AutoEvent}
 use Rattle.ppp_auto.specs.declared.input.Input.{Input}
 use Rattle.ppp_auto.specs.declared.input.Input.TheVariants.{Down}
-use Rattle.ppp_auto.specs.Automaton.{Auto, begun, Taken, taken_as, kind, input_of, judging, does_row, Effect, Sends, Tells}
+use Rattle.ppp_auto.specs.Auto.{Auto, begun, is_off}
+use Rattle.ppp_auto.specs.Taken.{Taken, taken_as, kind, input_of, judging}
+use Rattle.ppp_auto.specs.Automaton.{does_row}
+use Rattle.ppp_auto.specs.Outbox.{Effect, Sends, Tells}
 use Rattle.ppp_auto.specs.Packet.{Packet, Request, Ack, Nak, Reject, Other}
 use Rattle.ppp_auto.specs.EventTable.{cell_of, asks, acks}
 use Rattle.ppp_auto.specs.OptionTable.{Table}
@@ -102,11 +105,6 @@ does s e input taken mark word =
       };
       sent = marked n mark acted.effects;
     }
-
-abbrev pub is_off : AutoState → Bool
-is_off Initial = true
-is_off Starting = true
-is_off s = false
 
 -- the ordinal of the last request taken in, after a packet of that mark
 abbrev pub got_after : End → ℕ → Packet → ℕ
