@@ -1,5 +1,5 @@
 -- What a row of the event table comes to, put together from the steps of the code.
-use Rattle.std.proofs.Common.{◌≡◌, ℕ, ◌+◌, ◌%◌, ◌≤◌, Bool, true, false, if◌then◌else◌, List, [], ◌∷◌, ◌++◌, length, map, Option, Some, None, refl, ap, sym, ◌∙◌, arith}
+use Rattle.std.proofs.Common.{◌≡◌, ℕ, ◌+◌, ◌%◌, ◌≤◌, true, false, if◌then◌else◌, List, [], ◌∷◌, length, map, Option, Some, None, refl, ap, sym, ◌∙◌, arith}
 use Rattle.ppp_packet.specs.ConfigOption.{ConfigOption}
 use Rattle.ppp_auto.specs.declared.action.Action.{Action}
 use Rattle.ppp_auto.specs.declared.action.Action.TheVariants.{ThisLayerUp, ThisLayerDown, ThisLayerStarted, ThisLayerFinished, InitializeRestartCount, ZeroRestartCount, SendConfigureRequest, RepeatConfigureRequest, SendConfigureAck, SendConfigureNak, SendTerminateRequest, SendTerminateAck, SendCodeReject, SendEchoReply}
@@ -11,10 +11,10 @@ use Rattle.ppp_auto.specs.Auto.{Auto, is_off}
 use Rattle.ppp_auto.specs.Automaton.{Acted, acts_as, after, counts_anew, does_row, effect_of, effects, entries_of, take_read}
 use Rattle.ppp_auto.specs.EventTable.{Cell, acks, cell_of, draws, stays}
 use Rattle.ppp_auto.specs.OptionTable.{Table}
-use Rattle.ppp_auto.specs.Outbox.{Effect, Entry, entry_of}
+use Rattle.ppp_auto.specs.Outbox.{entry_of}
 use Rattle.ppp_auto.specs.Packet.{Packet}
 use Rattle.ppp_auto.specs.Taken.{Taken, kind, taken_seen}
-use Rattle.ppp_auto.proofs.TakenLemmas.{Comes, comes_in_packet, kind_comes}
+use Rattle.ppp_auto.proofs.TakenLemmas.{Comes, comes_in_packet}
 
 pub cell_few : (i : Input) (s : AutoState) → length (cell_of i s).actions ≤ 4
 cell_few i s = grind arith

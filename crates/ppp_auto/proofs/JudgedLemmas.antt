@@ -12,7 +12,7 @@ use Rattle.ppp_auto.specs.declared.judged.Judged.{Judged}
 use Rattle.ppp_auto.specs.declared.verdict.Verdict.{Verdict}
 use Rattle.ppp_auto.specs.declared.verdict.Verdict.TheVariants.{Good, Bad, Unknown}
 use Rattle.ppp_auto.specs.Front.{IsFront, PutsBehind}
-use Rattle.ppp_auto.specs.Judged.{AreJudged, collected, CorrectsOne, gathered, IsJudged, IsSettled, JudgesOne, RefusesOne}
+use Rattle.ppp_auto.specs.Judged.{AreJudged, collected, CorrectsOne, IsJudged, IsSettled, JudgesOne, RefusesOne}
 use Rattle.ppp_auto.specs.Reply.{bad_of, better_of, has_kind, has_options, is_refused, rejected, suggested, unacceptable}
 
 -- the kinds that were seen are those of the options so far

@@ -1,5 +1,4 @@
 pub mod AutomatonLemmas
-pub mod BareTableLemmas
 pub mod FrontLemmas
 pub mod JudgedLemmas
 pub mod ListLemmas

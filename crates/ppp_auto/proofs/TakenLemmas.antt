@@ -3,7 +3,6 @@ use Rattle.std.proofs.Common.{◌≡◌, ℕ, ◌+◌, ◌-◌, ◌≤◌, ◌�
 use Rattle.std.proofs.Math.Seq.{take-append-add}
 use Rattle.std.specs.Option.{option_map, option_to_list}
 use Rattle.ppp_packet.specs.ConfigOption.{ConfigOption}
-use Rattle.ppp_packet.specs.Options.{written}
 use Rattle.ppp_packet.specs.declared.code.Code.TheVariants.{EchoRequest, EchoReply}
 use Rattle.ppp_packet.specs.Code.{code_number}
 use Rattle.ppp_auto.specs.declared.auto.TheConstants.{LEAST_CAP}

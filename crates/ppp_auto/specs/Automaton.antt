@@ -19,7 +19,7 @@ use Rattle.ppp_auto.specs.Auto.{Auto, last_id, begins_anew}
 use Rattle.ppp_auto.specs.EventTable.{Cell, cell_of, asks, acks, refuses, draws, restart_after}
 use Rattle.ppp_auto.specs.OptionTable.{Table}
 use Rattle.ppp_auto.specs.Outbox.{Effect, Sends, Tells, Entry, entry_of}
-use Rattle.ppp_auto.specs.Packet.{Packet, Request, Ack, Nak, Reject, Other, packet_of}
+use Rattle.ppp_auto.specs.Packet.{Packet, Request, Nak, Other, packet_of}
 use Rattle.ppp_auto.specs.Taken.{Taken, taken_as, kind, input_of}
 
 -- whether Configure-Naks are counted anew: the line came up

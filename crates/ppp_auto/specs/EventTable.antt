@@ -1,6 +1,6 @@
 -- The event table (RFC 1661 section 4.1): for each event and state the actions, in order, and the next state. A cell
 -- that the standard leaves empty, or holds impossible, has no action and keeps the state.
-use Rattle.std.specs.Prelude.{ℕ, ◌-◌, Bool, true, false, ◌||◌, if◌then◌else◌, List, [], ◌∷◌}
+use Rattle.std.specs.Prelude.{ℕ, ◌-◌, Bool, true, false, if◌then◌else◌, List, [], ◌∷◌}
 use Rattle.std.specs.List.{fold, list_any}
 use Rattle.ppp_auto.specs.declared.auto_state.AutoState.{AutoState}
 use Rattle.ppp_auto.specs.declared.auto_state.AutoState.TheVariants.{Initial, Starting, Closed, Stopped, Closing, Stopping, ReqSent, AckRcvd, AckSent, Opened}

@@ -3,6 +3,7 @@ pub mod Auto
 pub mod AutoState
 pub mod Automaton
 pub mod BareTable
+pub mod BareTableLaw
 pub mod EventTable
 pub mod Front
 pub mod Judged

@@ -1,5 +1,5 @@
 -- How a Configure-Request is answered (RFC 1661 sections 5.2 to 5.4), against the own list.
-use Rattle.std.specs.Prelude.{ℕ, ◌+◌, ◌-◌, Bool, true, false, ◌&&◌, ◌||◌, ◌==◌, nat_lt, nat_le, if◌then◌else◌, List, [], ◌∷◌, ◌++◌, length, Option, Some, None}
+use Rattle.std.specs.Prelude.{ℕ, ◌+◌, ◌-◌, Bool, true, false, ◌&&◌, ◌||◌, ◌==◌, nat_lt, nat_le, if◌then◌else◌, List, [], ◌∷◌, ◌++◌, length}
 use Rattle.std.specs.List.{flat_map, list_any}
 use Rattle.std.specs.Option.{option_to_list}
 use Rattle.std.specs.Str.{bytes_eq}
@@ -58,6 +58,10 @@ abbrev pub fitting : ℕ → List ConfigOption → List ConfigOption
 fitting room [] = []
 fitting room (o ∷ os) = if nat_lt room (2 + length o.body) then [] else o ∷ fitting (room - (2 + length o.body)) os
 
+-- as many of the options as a packet can carry
+abbrev pub fitted : List ConfigOption → List ConfigOption
+fitted list = fitting MOST_REST list
+
 pub record Reply : Type 0 where
   pub input : Input
   pub answer : Packet
@@ -80,13 +84,13 @@ reply_to_known naks id theirs [] [] bad = record { input = ReceiveConfigureReque
 reply_to_known naks id theirs [] (o ∷ missing) bad = refusing (Nak id (o ∷ missing))
 reply_to_known naks id theirs (o ∷ better) missing bad =
     if is_spent naks
-    then refusing (Reject id (fitting MOST_REST bad))
+    then refusing (Reject id (fitted bad))
     else refusing (Nak id ((o ∷ better) ++ missing))
 
 -- What is rejected comes first.
 abbrev pub reply_with : ℕ → ℕ → List ConfigOption → List ConfigOption → List ConfigOption → List ConfigOption → List ConfigOption → Reply
 reply_with naks id theirs [] better missing bad = reply_to_known naks id theirs better missing bad
-reply_with naks id theirs (o ∷ refused) better missing bad = refusing (Reject id (fitting MOST_REST (o ∷ refused)))
+reply_with naks id theirs (o ∷ refused) better missing bad = refusing (Reject id (fitted (o ∷ refused)))
 
 -- The answer to a request of these options, after that many Naks, judged against the own list.
 abbrev pub reply_to : Table → List ConfigOption → ℕ → ℕ → ℕ → List ConfigOption → Reply

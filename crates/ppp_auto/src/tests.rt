@@ -2,7 +2,7 @@
 
 ghost use Rattle.std.specs.Prelude.{true, refl};
 ghost use Rattle.ppp_auto.specs.BareTable.{bare, AllowsBare, FitsAny, IsAny, IsBare};
-ghost use Rattle.ppp_auto.proofs.BareTableLemmas.{bare_lawful};
+ghost use Rattle.ppp_auto.specs.BareTableLaw.{bare_lawful};
 
 use super::{AutoEvent, AutoState, Automaton, EntryRef, OptionTable, Outbox, Verdict};
 use ppp_packet::{Opt, OptList, OptRef, Options};

@@ -1,8 +1,7 @@
-use Rattle.std.proofs.Common.{◌≡◌, ◌∙◌, refl, sym, ap, ◌++◌, [], arith}
+use Rattle.std.proofs.Common.{◌∙◌, refl, sym, ap, arith}
 use Rattle.ppp_packet.proofs.OptionLemmas.{HoldsOptions-written}
 use Rattle.ppp_auto.specs.declared.input.Input.TheVariants.{ReceiveConfigureRequestGood}
-use Rattle.ppp_auto.specs.Auto.{auto_seen, is_stopped}
-use Rattle.ppp_auto.specs.Taken.{judging}
+use Rattle.ppp_auto.specs.Auto.{is_stopped}
 use Rattle.ppp_auto.specs.Packet.{Packet, Ack, Nak, Reject}
 use Rattle.ppp_auto.specs.Reply.{Reply, refusing}
 use Rattle.ppp_auto.proofs.ReplyLemmas.{judging_sent, kept_clean, reply_rejecting, reply_clean, reply_good, acked_short, empty_list, filled_list, answered}

@@ -1,4 +1,4 @@
-use Rattle.std.proofs.Common.{◌∙◌, ◌-◌, ap, take, drop}
+use Rattle.std.proofs.Common.{◌∙◌, ◌-◌, ap, take}
 use Rattle.ppp_auto.specs.Auto.{auto_seen}
 use Rattle.ppp_auto.proofs.TakenLemmas.{echoed}
 use Rattle.ppp_auto.proofs.taken.echo_answer.Goals as goal

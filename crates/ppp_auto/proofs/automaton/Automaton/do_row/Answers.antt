@@ -1,9 +1,9 @@
-use Rattle.std.proofs.Common.{◌∙◌, ap, sym, length, arith}
+use Rattle.std.proofs.Common.{◌∙◌, ap, length}
 use Rattle.ppp_auto.specs.Auto.{auto_seen}
 use Rattle.ppp_auto.specs.Automaton.{does_row, entries_of}
-use Rattle.ppp_auto.specs.EventTable.{Cell, acks, cell_seen, draws}
+use Rattle.ppp_auto.specs.EventTable.{Cell, cell_seen}
 use Rattle.ppp_auto.specs.Taken.{taken_seen}
-use Rattle.ppp_auto.proofs.AutomatonLemmas.{acked_good, cell_few, row_auto, row_entries}
+use Rattle.ppp_auto.proofs.AutomatonLemmas.{cell_few, row_auto, row_entries}
 use Rattle.ppp_auto.proofs.automaton.Automaton.do_row.Goals as goal
 
 pub emit_all-requires-clause-few : goal.emit_all-requires-clause-few

@@ -1,5 +1,4 @@
 use Rattle.std.proofs.Common.{refl}
-use Rattle.ppp_packet.specs.ConfigOption.{ConfigOption}
 use Rattle.ppp_packet.specs.Options.{option_with}
 use Rattle.ppp_packet.specs.OptRef.{option_seen}
 use Rattle.ppp_auto.specs.Front.{PutsBehind}
