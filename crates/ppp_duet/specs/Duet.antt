@@ -1,6 +1,6 @@
 -- Two ends with tables of one type, and a queue of packets to each: one protocol on one link. Each Configure-Request
 -- in a queue carries its ordinal as a mark, each answer to it the same mark. No end reads a mark.
-use Rattle.std.specs.Prelude.{ℕ, zero, suc, ◌+◌, Bool, true, false, if◌then◌else◌, List, [], ◌∷◌, ◌++◌, Option, Some, None}
+use Rattle.std.specs.Prelude.{ℕ, zero, suc, ◌+◌, if◌then◌else◌, List, [], ◌∷◌, ◌++◌, Option, Some, None}
 use Rattle.ppp_packet.specs.declared.code.Code.TheVariants.{ProtocolReject}
 use Rattle.ppp_packet.specs.Code.{code_number}
 use Rattle.ppp_packet.specs.ConfigOption.{ConfigOption}
