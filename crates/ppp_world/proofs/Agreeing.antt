@@ -20,8 +20,8 @@ use Rattle.ppp_world.specs.Led.{IsLed}
 use Rattle.ppp_world.specs.Run.{Moment, moment_of, Place, after_moment, settling, moments_of, place_after, run_from, begun_place, run_of, before_refusal, kept_with}
 use Rattle.ppp_world.specs.Texts.{agrees, agree_of}
 use Rattle.ppp_world.proofs.LcpAgree.{agrees-if}
-use Rattle.ppp_script.specs.declared.event.End.{End}
-use Rattle.ppp_script.specs.declared.event.End.TheVariants as end
+use Rattle.ppp_script.specs.declared.end.End.{End}
+use Rattle.ppp_script.specs.declared.end.End.TheVariants as end
 use Rattle.ppp_script.specs.declared.event.Event.{Event as Event'}
 use Rattle.ppp_script.specs.declared.event.Event.TheVariants.{Up, Down, AdminOpen, AdminClose, Timeout, Deliver, Lose, Settle, Show}
 

@@ -3,8 +3,8 @@ use Rattle.std.proofs.Common.{◌≡◌, ℕ, ◌+◌, ◌≤◌, List, [], ◌�
 use Rattle.std.specs.Prelude.{Option, Some, None, Result, Ok, Err, IfOk, option_map, IsSome}
 use Rattle.std.proofs.lemmas.List.Sums.{sum_by-cons}
 use Rattle.ppp_script.specs.declared.event.Event.{Event}
-use Rattle.ppp_script.specs.declared.event.End as ends
-use Rattle.ppp_script.specs.Events.{steps_in, steps_in_all}
+use Rattle.ppp_script.specs.declared.end.End as ends
+use Rattle.ppp_script.specs.Event.{steps_in, steps_in_all}
 use Rattle.ppp_world.specs.declared.fault.WorldFault.{WorldFault}
 use Rattle.ppp_world.specs.declared.fault.WorldFault.TheVariants as fault
 use Rattle.ppp_world.specs.declared.replaying.Refusal.{Refusal}

@@ -8,15 +8,15 @@ use Rattle.ppp_auto.specs.declared.input.Input.{Input}
 use Rattle.ppp_duet.specs.Duet.{Duet, End, Marked, Setup, at_first, does, does_if, takes, happens, got_after, delivers, turned, least, requests, answers}
 use Rattle.ppp_auto.specs.Reply.{same_list}
 use Rattle.ppp_auto.specs.EventTable.{cell_of, asks}
-use Rattle.ppp_script.specs.declared.event.End as ends
-use Rattle.ppp_script.specs.declared.event.End.TheVariants as end_a
+use Rattle.ppp_script.specs.declared.end.End as ends
+use Rattle.ppp_script.specs.declared.end.End.TheVariants as end_a
 use Rattle.ppp_world.specs.declared.step.Happening.TheVariants as what
 use Rattle.ppp_world.specs.declared.step.Happening as kept
 use Rattle.ppp_world.specs.declared.step.Step.TheVariants as kept_step
 use Rattle.ppp_world.specs.declared.step.Step as kept_steps
 use Rattle.ppp_script.specs.declared.event.Event.{Event}
 use Rattle.ppp_script.specs.declared.event.Event.TheVariants.{Up, Down, AdminOpen, AdminClose, Timeout, Deliver, Lose, Settle, Show}
-use Rattle.ppp_script.specs.Events.{steps_in}
+use Rattle.ppp_script.specs.Event.{steps_in}
 use Rattle.ppp_world.specs.declared.fault.Halt as kept_halts
 use Rattle.ppp_world.specs.Halts.{IsCounted, UnlessMemory, kept_halt}
 use Rattle.ppp_world.specs.Journal.{Journal, Halt, OutOfMemory, TooWide, takes_step, does_step, settled, journal_after}

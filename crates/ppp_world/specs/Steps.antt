@@ -7,8 +7,8 @@ use Rattle.ppp_duet.specs.Duet.{Duet, Setup, Side, Happening, Commands, Delivers
 use Rattle.ppp_duet.specs.Duet as side
 use Rattle.ppp_packet.specs.declared.proto.Proto.{Proto}
 use Rattle.ppp_packet.specs.declared.proto.Proto.TheVariants.{Lcp}
-use Rattle.ppp_script.specs.declared.event.End.{End}
-use Rattle.ppp_script.specs.declared.event.End.TheVariants as end
+use Rattle.ppp_script.specs.declared.end.End.{End}
+use Rattle.ppp_script.specs.declared.end.End.TheVariants as end
 use Rattle.ppp_script.specs.declared.event.Event.{Event}
 use Rattle.ppp_script.specs.declared.event.Event.TheVariants.{Up, Down, AdminOpen, AdminClose, Timeout, Deliver, Lose, Settle, Show}
 use Rattle.ppp_world.specs.Lcp.{lcp_table}

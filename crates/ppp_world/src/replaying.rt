@@ -8,7 +8,7 @@ ghost use Rattle.ppp_world.specs.Run.{run_of, report};
 use crate::fault::WorldFault;
 use crate::world::World;
 use ppp_auto::Memory;
-use ppp_script::{End, Script};
+use ppp_script::{End, Event, Script};
 use std::alloc::Global;
 
 /// What a replay comes to: the report of the steps that were done, and the first step that is refused, if there is one.
@@ -38,7 +38,7 @@ pub struct Refusal {
 }
 
 /// Replays a script, up to the first step that is refused.
-pub fn replay(alloc: Global, script: &Script) -> Result<Replayed, Memory>
+pub fn replay(alloc: Global, script: &Script<Event>) -> Result<Replayed, Memory>
     ensures report { IfOk result (λ replayed. replayed.report.items ≡ (replay_of script.now).report) }
     ensures refused { IfOk result (λ replayed. replayed.refused ≡ option_map refusal_of (replay_of script.now).refused) }
     ensures whole { IfOk result (λ replayed. replayed.refused ≡ None → replayed.report.items ≡ report (run_of script.now)) }

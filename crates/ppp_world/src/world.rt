@@ -1,7 +1,7 @@
 //! The world of a script.
 
 ghost use Rattle.std.specs.Prelude.{◌≡◌, ◌≢◌, ◌↔◌, ◌+◌, ◌≤◌, ◌++◌, false, IsNone, IsSome, OnOk, IfOk, None, Some, option_map};
-ghost use Rattle.ppp_script.specs.Events.{steps_in};
+ghost use Rattle.ppp_script.specs.Event.{steps_in};
 ghost use Rattle.ppp_world.specs.Agreed.{agree_on, AreOpened};
 ghost use Rattle.ppp_world.specs.Halts.{answer_of, halt_in, UnlessMemory, IsCounted};
 ghost use Rattle.ppp_world.specs.Journal.{begun_journal, journal_after, takes_step, does_step, settled};
