@@ -1,5 +1,5 @@
 -- Facts on event lines: the text of an event reads as it, and what reads as an event is its text.
-use Rattle.std.proofs.Common.{◌≡◌, ◌≢◌, ℕ, ◌^◌, ◌<◌, ◌≤◌, Bool, true, false, List, [], ◌∷◌, refl, sym, ◌∙◌, ap, arith}
+use Rattle.std.proofs.Common.{drop, ◌≡◌, ◌≢◌, ℕ, ◌^◌, ◌<◌, ◌≤◌, Bool, true, false, List, [], ◌∷◌, refl, sym, ◌∙◌, ap, arith}
 use Rattle.std.specs.Prelude.{Option, Some, None, Result, Ok, Err, All, nat_le, if◌then◌else◌, bytes_eq, codes}
 use Rattle.std.specs.List.{AllByRecursion}
 use Rattle.std.specs.Option.{ok_or}
@@ -19,10 +19,11 @@ use Rattle.ppp_script.specs.declared.end.End.TheVariants.{A, B}
 use Rattle.ppp_script.specs.declared.event.Event.{Event}
 use Rattle.ppp_script.specs.declared.event.Event.TheVariants.{Up, Down, AdminOpen, AdminClose, Timeout, Deliver, Lose, Settle, Show}
 use Rattle.ppp_script.specs.declared.field.TheConstants.{MOST_LINKS}
+use Rattle.ppp_script.specs.declared.event.TheConstants.{MOST_PLACE, MOST_SETTLED}
 use Rattle.ppp_script.specs.declared.line_why.LineWhy.{LineWhy}
 use Rattle.ppp_script.specs.declared.line_why.LineWhy.TheVariants as why
 use Rattle.ppp_script.specs.End.{end_name}
-use Rattle.ppp_script.specs.Event.{IsWithin, event_fields, event_text, place_in, link_line, protocol_line, lose_line, settle_line, place_fields, Row, row, read_as, rows, event_by, event_in, event_of}
+use Rattle.ppp_script.specs.Event.{IsWithin, event_fields, event_text, place_in, placed, last_protocol, last_number, place_fields, Row, row, read_as, rows, event_by, event_in, event_of}
 use Rattle.ppp_script.specs.Field.{next_field, no_more, number_field, end_in, link_in, protocol_in, IsLink, IsNamed}
 use Rattle.ppp_script.specs.Results.{◌>>=◌}
 
@@ -85,49 +86,32 @@ place_in-is links (first ∷ behind) p is =
     let rest : behind ≡ decimal l.0 ∷ s.0.1 = next_field-is behind s.0 s.1.0 ∙ ap (λ x. x ∷ s.0.1) (link_in-is links l.0 s.0.0 l.1.0) in
     ap (λ x. x ∷ behind) (end_in-is first e.0 e.1.0) ∙ ap (λ xs. end_name e.0 ∷ xs) rest ∙ ap (λ (q : End × ℕ × List (List ℕ)). end_name q.0 ∷ decimal q.1 ∷ q.2) made
 
-link_line-is : (links : ℕ) (fields : List (List ℕ)) (p : End × ℕ) → link_line links fields ≡ Ok p → fields ≡ end_name p.0 ∷ decimal p.1 ∷ []
-unfolding link_line
-link_line-is links fields p is =
-    let a = inside (place_in links fields) (λ place. no_more place.2 >>= (λ nothing. Ok (place.0, place.1))) p is in
-    let b = inside (no_more a.0.2) (λ nothing. Ok (a.0.0, a.0.1)) p a.1.1 in
-    let made : (a.0.0, a.0.1) ≡ p = cc in
-    place_in-is links fields a.0 a.1.0 ∙ ap (λ more. end_name a.0.0 ∷ decimal a.0.1 ∷ more) (no_more-is a.0.2 b.0 b.1.0) ∙ ap (λ (q : End × ℕ). end_name q.0 ∷ decimal q.1 ∷ []) made
+placed-is : {X : Type 0} (links : ℕ) (last : List (List ℕ) → Result X LineWhy) (text : X → List (List ℕ)) → ((fields : List (List ℕ)) (x : X) → last fields ≡ Ok x → fields ≡ text x) →
+    (fields : List (List ℕ)) (p : End × ℕ × X) → placed links last fields ≡ Ok p → fields ≡ place_fields p.0 p.1 (text p.2)
+unfolding placed
+placed-is {X} links last text is_text fields p is =
+    let a = inside (place_in links fields) (λ place. last place.2 >>= (λ x. Ok (place.0, place.1, x))) p is in
+    let b = inside (last a.0.2) (λ x. Ok (a.0.0, a.0.1, x)) p a.1.1 in
+    let made : (a.0.0, a.0.1, b.0) ≡ p = cc in
+    place_in-is links fields a.0 a.1.0 ∙ ap (λ more. place_fields a.0.0 a.0.1 more) (is_text a.0.2 b.0 b.1.0) ∙ ap (λ (q : End × ℕ × X). place_fields q.0 q.1 (text q.2)) made
 
-protocol_line-is : (links : ℕ) (fields : List (List ℕ)) (p : End × ℕ × Proto) → protocol_line links fields ≡ Ok p → fields ≡ end_name p.0 ∷ decimal p.1 ∷ proto_name p.2 ∷ []
-unfolding protocol_line
-protocol_line-is links fields p is =
-    let a = inside (place_in links fields) (λ place. next_field place.2 >>= (λ third. protocol_in third.0 >>= (λ protocol. no_more third.1 >>= (λ nothing. Ok (place.0, place.1, protocol))))) p is in
-    let t = inside (next_field a.0.2) (λ third. protocol_in third.0 >>= (λ protocol. no_more third.1 >>= (λ nothing. Ok (a.0.0, a.0.1, protocol)))) p a.1.1 in
-    let r = inside (protocol_in t.0.0) (λ protocol. no_more t.0.1 >>= (λ nothing. Ok (a.0.0, a.0.1, protocol))) p t.1.1 in
-    let b = inside (no_more t.0.1) (λ nothing. Ok (a.0.0, a.0.1, r.0)) p r.1.1 in
-    let made : (a.0.0, a.0.1, r.0) ≡ p = cc in
-    let rest : a.0.2 ≡ proto_name r.0 ∷ [] = next_field-is a.0.2 t.0 t.1.0 ∙ ap (λ x. x ∷ t.0.1) (protocol_in-is t.0.0 r.0 r.1.0) ∙ ap (λ xs. proto_name r.0 ∷ xs) (no_more-is t.0.1 b.0 b.1.0) in
-    place_in-is links fields a.0 a.1.0 ∙ ap (λ more. end_name a.0.0 ∷ decimal a.0.1 ∷ more) rest ∙ ap (λ (q : End × ℕ × Proto). end_name q.0 ∷ decimal q.1 ∷ proto_name q.2 ∷ []) made
+last_protocol-is : (fields : List (List ℕ)) (protocol : Proto) → last_protocol fields ≡ Ok protocol → fields ≡ proto_name protocol ∷ []
+unfolding last_protocol
+last_protocol-is fields protocol is =
+    let t = inside (next_field fields) (λ first. protocol_in first.0 >>= (λ protocol. no_more first.1 >>= (λ nothing. Ok protocol))) protocol is in
+    let r = inside (protocol_in t.0.0) (λ protocol. no_more t.0.1 >>= (λ nothing. Ok protocol)) protocol t.1.1 in
+    let b = inside (no_more t.0.1) (λ nothing. Ok r.0) protocol r.1.1 in
+    let made : r.0 ≡ protocol = cc in
+    next_field-is fields t.0 t.1.0 ∙ ap (λ x. x ∷ t.0.1) (protocol_in-is t.0.0 r.0 r.1.0) ∙ ap (λ xs. proto_name r.0 ∷ xs) (no_more-is t.0.1 b.0 b.1.0) ∙ ap (λ q. proto_name q ∷ []) made
 
--- one number, and nothing behind it
-number_last : (least most : ℕ) (fields : List (List ℕ)) (n : ℕ) → most < 2 ^ 64 →
-    (next_field fields >>= (λ first. number_field least most first.0 >>= (λ count. no_more first.1 >>= (λ nothing. Ok count)))) ≡ Ok n → fields ≡ decimal n ∷ []
-number_last least most fields n fits is =
+last_number-is : (least most : ℕ) → most < 2 ^ 64 → (fields : List (List ℕ)) (n : ℕ) → last_number least most fields ≡ Ok n → fields ≡ decimal n ∷ []
+unfolding last_number
+last_number-is least most fits fields n is =
     let t = inside (next_field fields) (λ first. number_field least most first.0 >>= (λ count. no_more first.1 >>= (λ nothing. Ok count))) n is in
     let r = inside (number_field least most t.0.0) (λ count. no_more t.0.1 >>= (λ nothing. Ok count)) n t.1.1 in
     let b = inside (no_more t.0.1) (λ nothing. Ok r.0) n r.1.1 in
     let made : r.0 ≡ n = cc in
     next_field-is fields t.0 t.1.0 ∙ ap (λ x. x ∷ t.0.1) (number_field-is least most r.0 t.0.0 fits r.1.0) ∙ ap (λ xs. decimal r.0 ∷ xs) (no_more-is t.0.1 b.0 b.1.0) ∙ ap (λ m. decimal m ∷ []) made
-
-settle_line-is : (fields : List (List ℕ)) (n : ℕ) → settle_line fields ≡ Ok n → fields ≡ decimal n ∷ []
-unfolding settle_line
-settle_line-is fields n is = number_last 1 1000 fields n (omega arith) is
-
-lose_line-is : (links : ℕ) (fields : List (List ℕ)) (p : End × ℕ × ℕ) → lose_line links fields ≡ Ok p → fields ≡ end_name p.0 ∷ decimal p.1 ∷ decimal p.2 ∷ []
-unfolding lose_line
-lose_line-is links fields p is =
-    let a = inside (place_in links fields) (λ place. next_field place.2 >>= (λ third. number_field 1 1024 third.0 >>= (λ frame. no_more third.1 >>= (λ nothing. Ok (place.0, place.1, frame))))) p is in
-    let t = inside (next_field a.0.2) (λ third. number_field 1 1024 third.0 >>= (λ frame. no_more third.1 >>= (λ nothing. Ok (a.0.0, a.0.1, frame)))) p a.1.1 in
-    let r = inside (number_field 1 1024 t.0.0) (λ frame. no_more t.0.1 >>= (λ nothing. Ok (a.0.0, a.0.1, frame))) p t.1.1 in
-    let b = inside (no_more t.0.1) (λ nothing. Ok (a.0.0, a.0.1, r.0)) p r.1.1 in
-    let made : (a.0.0, a.0.1, r.0) ≡ p = cc in
-    let rest : a.0.2 ≡ decimal r.0 ∷ [] = next_field-is a.0.2 t.0 t.1.0 ∙ ap (λ x. x ∷ t.0.1) (number_field-is 1 1024 r.0 t.0.0 (omega arith) r.1.0) ∙ ap (λ xs. decimal r.0 ∷ xs) (no_more-is t.0.1 b.0 b.1.0) in
-    place_in-is links fields a.0 a.1.0 ∙ ap (λ more. end_name a.0.0 ∷ decimal a.0.1 ∷ more) rest ∙ ap (λ (q : End × ℕ × ℕ). end_name q.0 ∷ decimal q.1 ∷ decimal q.2 ∷ []) made
 
 -- what a row reads is the text of the event that it makes
 abbrev ReadsTexts : Row → Type 0
@@ -141,44 +125,42 @@ event_by-is (r ∷ rs) all word fields event = by_test (bytes_eq word r.word) re
   by_test true test below is = ap (λ w. w ∷ fields) (same_bytes word r.word test) ∙ all.0 fields event is
   by_test false test below is = below is
 
--- a row that reads fields by one of these readers, and makes an event of what it read
+-- a row that reads fields by this reader, and makes an event of what it read
 row_is : {X : Type 0} (word : List ℕ) (reads : List (List ℕ) → Result X LineWhy) (make : X → Event) (text : X → List (List ℕ)) →
-    ((fields : List (List ℕ)) (x : X) → reads fields ≡ Ok x → fields ≡ text x) → ((x : X) → word ∷ text x ≡ event_fields (make x)) →
-    ReadsTexts (row word (read_as reads make))
+    ((fields : List (List ℕ)) (x : X) → reads fields ≡ Ok x → fields ≡ text x) → ((x : X) → word ∷ text x ≡ event_fields (make x)) → ReadsTexts (row word (read_as reads make))
 row_is word reads make text is_text is_event = λ fields event is.
     let x = inside (reads fields) (λ x. Ok (make x)) event is in
     let made : make x.0 ≡ event = cc in
     ap (λ fs. word ∷ fs) (is_text fields x.0 x.1.0) ∙ is_event x.0 ∙ ap event_fields made
 
+link_row : (links : ℕ) (word : List ℕ) (make : End → ℕ → Event) → ((end : End) (link : ℕ) → word ∷ place_fields end link [] ≡ event_fields (make end link)) →
+    ReadsTexts (row word (read_as (placed links no_more) (λ p. make p.0 p.1)))
+link_row links word make is_event = row_is word (placed links no_more) (λ p. make p.0 p.1) (λ p. place_fields p.0 p.1 []) (placed-is links no_more (λ nothing. []) no_more-is) (λ p. is_event p.0 p.1)
+
+protocol_row : (links : ℕ) (word : List ℕ) (make : End → ℕ → Proto → Event) →
+    ((end : End) (link : ℕ) (protocol : Proto) → word ∷ place_fields end link (proto_name protocol ∷ []) ≡ event_fields (make end link protocol)) →
+    ReadsTexts (row word (read_as (placed links last_protocol) (λ p. make p.0 p.1 p.2)))
+protocol_row links word make is_event = row_is word (placed links last_protocol) (λ p. make p.0 p.1 p.2) (λ p. place_fields p.0 p.1 (proto_name p.2 ∷ []))
+    (placed-is links last_protocol (λ protocol. proto_name protocol ∷ []) last_protocol-is) (λ p. is_event p.0 p.1 p.2)
+
+lose_row : (links : ℕ) → ReadsTexts (row (codes "lose") (read_as (placed links (last_number 1 MOST_PLACE)) (λ p. Lose p.0 p.1 p.2)))
+lose_row links = row_is (codes "lose") (placed links (last_number 1 MOST_PLACE)) (λ p. Lose p.0 p.1 p.2) (λ p. place_fields p.0 p.1 (decimal p.2 ∷ []))
+    (placed-is links (last_number 1 MOST_PLACE) (λ n. decimal n ∷ []) (last_number-is 1 MOST_PLACE (omega arith))) (λ p. refl)
+
+settle_row : ReadsTexts (row (codes "settle") (read_as (last_number 1 MOST_SETTLED) Settle))
+settle_row = row_is (codes "settle") (last_number 1 MOST_SETTLED) Settle (λ n. decimal n ∷ []) (last_number-is 1 MOST_SETTLED (omega arith)) (λ n. refl)
+
+show_row : ReadsTexts (row (codes "show") (read_as no_more (λ nothing. Show)))
+show_row = row_is (codes "show") no_more (λ nothing. Show) (λ nothing. []) no_more-is (λ nothing. refl)
+
 rows_are : (links : ℕ) → AllByRecursion ReadsTexts (rows links)
-rows_are links = (
-  row_is (codes "up") (link_line links) (λ p. Up p.0 p.1) (λ p. place_fields p.0 p.1 []) (link_line-is links) (λ p. refl),
-  (
-    row_is (codes "down") (link_line links) (λ p. Down p.0 p.1) (λ p. place_fields p.0 p.1 []) (link_line-is links) (λ p. refl),
-    (
-      row_is (codes "open") (protocol_line links) (λ p. AdminOpen p.0 p.1 p.2) (λ p. place_fields p.0 p.1 (proto_name p.2 ∷ [])) (protocol_line-is links) (λ p. refl),
-      (
-        row_is (codes "close") (protocol_line links) (λ p. AdminClose p.0 p.1 p.2) (λ p. place_fields p.0 p.1 (proto_name p.2 ∷ [])) (protocol_line-is links) (λ p. refl),
-        (
-          row_is (codes "timeout") (protocol_line links) (λ p. Timeout p.0 p.1 p.2) (λ p. place_fields p.0 p.1 (proto_name p.2 ∷ [])) (protocol_line-is links) (λ p. refl),
-          (
-            row_is (codes "deliver") (link_line links) (λ p. Deliver p.0 p.1) (λ p. place_fields p.0 p.1 []) (link_line-is links) (λ p. refl),
-            (
-              row_is (codes "lose") (lose_line links) (λ p. Lose p.0 p.1 p.2) (λ p. place_fields p.0 p.1 (decimal p.2 ∷ [])) (lose_line-is links) (λ p. refl),
-              (
-                row_is (codes "settle") settle_line Settle (λ n. decimal n ∷ []) settle_line-is (λ n. refl),
-                (
-                  row_is (codes "show") no_more (λ u. Show) (λ u. []) no_more-is (λ u. refl),
-                  tt,
-                ),
-              ),
-            ),
-          ),
-        ),
-      ),
-    ),
-  ),
-)
+rows_are links =
+    let by_link = link_row links in
+    let by_protocol = protocol_row links in
+    let few : AllByRecursion ReadsTexts (drop 6 (rows links)) = (lose_row links, (settle_row, (show_row, tt))) in
+    let some : AllByRecursion ReadsTexts (drop 4 (rows links)) = (by_protocol (codes "timeout") Timeout (λ e l p. refl), (by_link (codes "deliver") Deliver (λ e l. refl), few)) in
+    let more : AllByRecursion ReadsTexts (drop 2 (rows links)) = (by_protocol (codes "open") AdminOpen (λ e l p. refl), (by_protocol (codes "close") AdminClose (λ e l p. refl), some)) in
+    (by_link (codes "up") Up (λ e l. refl), (by_link (codes "down") Down (λ e l. refl), more))
 
 pub event_of-is : (links : ℕ) (line : List ℕ) (event : Event) → event_of links line ≡ Ok event → line ≡ event_text event
 unfolding event_of event_in
@@ -232,31 +214,52 @@ event_of-fields : (links : ℕ) (word : List ℕ) (more : List (List ℕ)) (even
 unfolding event_of
 event_of-fields links word more event first rest is = rw (fields_of-line_with word more (All-cons Spaceless word more first rest)) is
 
-link_line-fields : (links link : ℕ) (end : End) → links ≤ MOST_LINKS → IsLink links link → link_line links (end_name end ∷ decimal link ∷ []) ≡ Ok (end, link)
-unfolding link_line
-link_line-fields links link end few is = rw (place_in-fields links link end [] few is) refl
+placed-fields : {X : Type 0} (links link : ℕ) (end : End) (last : List (List ℕ) → Result X LineWhy) (more : List (List ℕ)) (x : X) → links ≤ MOST_LINKS → IsLink links link →
+    last more ≡ Ok x → placed links last (place_fields end link more) ≡ Ok (end, link, x)
+unfolding placed
+placed-fields links link end last more x few is reads = rw (place_in-fields links link end more few is, reads) refl
 
-protocol_line-fields : (links link : ℕ) (end : End) (protocol : Proto) → links ≤ MOST_LINKS → IsLink links link → IsNamed protocol → protocol_line links (end_name end ∷ decimal link ∷ proto_name protocol ∷ []) ≡ Ok (end, link, protocol)
-unfolding protocol_line
-protocol_line-fields links link end protocol few is named = rw (place_in-fields links link end (proto_name protocol ∷ []) few is, protocol_in-name protocol named) refl
+last_protocol-name : (protocol : Proto) → IsNamed protocol → last_protocol (proto_name protocol ∷ []) ≡ Ok protocol
+unfolding last_protocol
+last_protocol-name protocol named = rw (protocol_in-name protocol named) refl
+
+last_number-decimal : (least most n : ℕ) → most < 2 ^ 64 → least ≤ n → n ≤ most → last_number least most (decimal n ∷ []) ≡ Ok n
+unfolding last_number
+last_number-decimal least most n fits low high = rw (number_in-decimal least most n low high (omega arith)) refl
+
+link_reads : (links link : ℕ) (end : End) → links ≤ MOST_LINKS → IsLink links link → All Spaceless (place_fields end link []) × (placed links no_more (place_fields end link []) ≡ Ok (end, link, tt))
+link_reads links link end few is = (spaceless_place end link [] (omega (arith, is.1)) (All-nil Spaceless), placed-fields links link end no_more [] tt few is refl)
+
+protocol_reads : (links link : ℕ) (end : End) (protocol : Proto) → links ≤ MOST_LINKS → IsLink links link → IsNamed protocol →
+    All Spaceless (place_fields end link (proto_name protocol ∷ [])) × (placed links last_protocol (place_fields end link (proto_name protocol ∷ [])) ≡ Ok (end, link, protocol))
+protocol_reads links link end protocol few is named = (
+  spaceless_place end link (proto_name protocol ∷ []) (omega (arith, is.1)) (spaceless_protocol protocol named),
+  placed-fields links link end last_protocol (proto_name protocol ∷ []) protocol few is (last_protocol-name protocol named),
+)
 
 pub event_of-text : (links : ℕ) (event : Event) → links ≤ MOST_LINKS → IsWithin links event → event_of links (event_text event) ≡ Ok event
-unfolding event_in lose_line settle_line
+unfolding event_in
 event_of-text links (Up end link) few is =
-    event_of-fields links (codes "up") (place_fields end link []) (Up end link) (spaceless (codes "up") refl) (spaceless_place end link [] (omega (arith, is.1)) (All-nil Spaceless)) (rw (link_line-fields links link end few is) refl)
+    let r = link_reads links link end few is in event_of-fields links (codes "up") (place_fields end link []) (Up end link) (spaceless (codes "up") refl) r.0 (rw r.1 refl)
 event_of-text links (Down end link) few is =
-    event_of-fields links (codes "down") (place_fields end link []) (Down end link) (spaceless (codes "down") refl) (spaceless_place end link [] (omega (arith, is.1)) (All-nil Spaceless)) (rw (link_line-fields links link end few is) refl)
+    let r = link_reads links link end few is in event_of-fields links (codes "down") (place_fields end link []) (Down end link) (spaceless (codes "down") refl) r.0 (rw r.1 refl)
 event_of-text links (AdminOpen end link protocol) few is =
-    event_of-fields links (codes "open") (place_fields end link (proto_name protocol ∷ [])) (AdminOpen end link protocol) (spaceless (codes "open") refl) (spaceless_place end link (proto_name protocol ∷ []) (omega (arith, is.0.1)) (spaceless_protocol protocol is.1)) (rw (protocol_line-fields links link end protocol few is.0 is.1) refl)
+    let r = protocol_reads links link end protocol few is.0 is.1 in
+    event_of-fields links (codes "open") (place_fields end link (proto_name protocol ∷ [])) (AdminOpen end link protocol) (spaceless (codes "open") refl) r.0 (rw r.1 refl)
 event_of-text links (AdminClose end link protocol) few is =
-    event_of-fields links (codes "close") (place_fields end link (proto_name protocol ∷ [])) (AdminClose end link protocol) (spaceless (codes "close") refl) (spaceless_place end link (proto_name protocol ∷ []) (omega (arith, is.0.1)) (spaceless_protocol protocol is.1)) (rw (protocol_line-fields links link end protocol few is.0 is.1) refl)
+    let r = protocol_reads links link end protocol few is.0 is.1 in
+    event_of-fields links (codes "close") (place_fields end link (proto_name protocol ∷ [])) (AdminClose end link protocol) (spaceless (codes "close") refl) r.0 (rw r.1 refl)
 event_of-text links (Timeout end link protocol) few is =
-    event_of-fields links (codes "timeout") (place_fields end link (proto_name protocol ∷ [])) (Timeout end link protocol) (spaceless (codes "timeout") refl) (spaceless_place end link (proto_name protocol ∷ []) (omega (arith, is.0.1)) (spaceless_protocol protocol is.1)) (rw (protocol_line-fields links link end protocol few is.0 is.1) refl)
+    let r = protocol_reads links link end protocol few is.0 is.1 in
+    event_of-fields links (codes "timeout") (place_fields end link (proto_name protocol ∷ [])) (Timeout end link protocol) (spaceless (codes "timeout") refl) r.0 (rw r.1 refl)
 event_of-text links (Deliver end link) few is =
-    event_of-fields links (codes "deliver") (place_fields end link []) (Deliver end link) (spaceless (codes "deliver") refl) (spaceless_place end link [] (omega (arith, is.1)) (All-nil Spaceless)) (rw (link_line-fields links link end few is) refl)
+    let r = link_reads links link end few is in event_of-fields links (codes "deliver") (place_fields end link []) (Deliver end link) (spaceless (codes "deliver") refl) r.0 (rw r.1 refl)
 event_of-text links (Lose end link place) few is =
-    event_of-fields links (codes "lose") (place_fields end link (decimal place ∷ [])) (Lose end link place) (spaceless (codes "lose") refl) (spaceless_place end link (decimal place ∷ []) (omega (arith, is.0.1)) (spaceless_number place (omega (arith, is.1.1))))
-    (rw (place_in-fields links link end (decimal place ∷ []) few is.0, number_in-decimal 1 1024 place is.1.0 is.1.1 (omega (arith, is.1.1))) refl)
+    let number = last_number-decimal 1 MOST_PLACE place (omega arith) is.1.0 is.1.1 in
+    event_of-fields links (codes "lose") (place_fields end link (decimal place ∷ [])) (Lose end link place) (spaceless (codes "lose") refl)
+    (spaceless_place end link (decimal place ∷ []) (omega (arith, is.0.1)) (spaceless_number place (omega (arith, is.1.1))))
+    (rw (placed-fields links link end (last_number 1 MOST_PLACE) (decimal place ∷ []) place few is.0 number) refl)
 event_of-text links (Settle count) few is =
-    event_of-fields links (codes "settle") (decimal count ∷ []) (Settle count) (spaceless (codes "settle") refl) (spaceless_number count (omega (arith, is.1))) (rw (number_in-decimal 1 1000 count is.0 is.1 (omega (arith, is.1))) refl)
+    event_of-fields links (codes "settle") (decimal count ∷ []) (Settle count) (spaceless (codes "settle") refl) (spaceless_number count (omega (arith, is.1)))
+    (rw (last_number-decimal 1 MOST_SETTLED count (omega arith) is.0 is.1) refl)
 event_of-text links Show few is = event_of-fields links (codes "show") [] Show (spaceless (codes "show") refl) (All-nil Spaceless) refl

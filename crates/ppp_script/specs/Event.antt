@@ -1,5 +1,5 @@
 -- The events of a replay: their bounds, their texts, and the lines that read as them.
-use Rattle.std.specs.Prelude.{ℕ, ◌≤◌, ⊤, if◌then◌else◌, List, [], ◌∷◌, Result, Ok, Err, bytes_eq, codes}
+use Rattle.std.specs.Prelude.{sum_by, ℕ, ◌≤◌, ⊤, if◌then◌else◌, List, [], ◌∷◌, Result, Ok, Err, bytes_eq, codes}
 use Rattle.std.specs.Fmt.{decimal}
 use Rattle.ppp_packet.specs.declared.proto.Proto.{Proto}
 use Rattle.ppp_packet.specs.Proto.{proto_name}
@@ -19,6 +19,10 @@ use Rattle.ppp_script.specs.Results.{◌>>=◌}
 abbrev pub steps_in : Event → ℕ
 steps_in (Settle count) = count
 steps_in event = 1
+
+-- the steps of events, one behind the other
+abbrev pub steps_in_all : List Event → ℕ
+steps_in_all events = sum_by steps_in events
 
 -- an event's numbers are within their bounds, where so many links are configured, and its protocol is one that lines name
 abbrev pub IsWithin : ℕ → Event → Type 0
@@ -62,38 +66,28 @@ place_in links fields = do
   link ← link_in links second.0
   Ok (end, link, second.1)
 
--- `E L`
-unfoldable pub link_line : ℕ → List (List ℕ) → Result (End × ℕ) LineWhy
-link_line links fields = do
+-- `E L`, and what is read of the fields behind it
+unfoldable pub placed : {X : Type 0} → ℕ → (List (List ℕ) → Result X LineWhy) → List (List ℕ) → Result (End × ℕ × X) LineWhy
+placed links last fields = do
   place ← place_in links fields
-  nothing ← no_more place.2
-  Ok (place.0, place.1)
+  x ← last place.2
+  Ok (place.0, place.1, x)
 
--- `E L P`
-unfoldable pub protocol_line : ℕ → List (List ℕ) → Result (End × ℕ × Proto) LineWhy
-protocol_line links fields = do
-  place ← place_in links fields
-  third ← next_field place.2
-  protocol ← protocol_in third.0
-  nothing ← no_more third.1
-  Ok (place.0, place.1, protocol)
-
--- `E L K`, with K from 1 to 1,024
-unfoldable pub lose_line : ℕ → List (List ℕ) → Result (End × ℕ × ℕ) LineWhy
-lose_line links fields = do
-  place ← place_in links fields
-  third ← next_field place.2
-  frame ← number_field 1 MOST_PLACE third.0
-  nothing ← no_more third.1
-  Ok (place.0, place.1, frame)
-
--- `N`, from 1 to 1,000
-unfoldable pub settle_line : List (List ℕ) → Result ℕ LineWhy
-settle_line fields = do
+-- `P`, and no more
+unfoldable pub last_protocol : List (List ℕ) → Result Proto LineWhy
+last_protocol fields = do
   first ← next_field fields
-  count ← number_field 1 MOST_SETTLED first.0
+  protocol ← protocol_in first.0
   nothing ← no_more first.1
-  Ok count
+  Ok protocol
+
+-- a number within these bounds, and no more
+unfoldable pub last_number : ℕ → ℕ → List (List ℕ) → Result ℕ LineWhy
+last_number least most fields = do
+  first ← next_field fields
+  number ← number_field least most first.0
+  nothing ← no_more first.1
+  Ok number
 
 -- a first field, and how those behind it are read
 pub record Row : Type 0 where
@@ -109,14 +103,14 @@ read_as reads make fields = reads fields >>= (λ x. Ok (make x))
 
 abbrev pub rows : ℕ → List Row
 rows links =
-    row (codes "up") (read_as (link_line links) (λ p. Up p.0 p.1))
-    ∷ row (codes "down") (read_as (link_line links) (λ p. Down p.0 p.1))
-    ∷ row (codes "open") (read_as (protocol_line links) (λ p. AdminOpen p.0 p.1 p.2))
-    ∷ row (codes "close") (read_as (protocol_line links) (λ p. AdminClose p.0 p.1 p.2))
-    ∷ row (codes "timeout") (read_as (protocol_line links) (λ p. Timeout p.0 p.1 p.2))
-    ∷ row (codes "deliver") (read_as (link_line links) (λ p. Deliver p.0 p.1))
-    ∷ row (codes "lose") (read_as (lose_line links) (λ p. Lose p.0 p.1 p.2))
-    ∷ row (codes "settle") (read_as settle_line Settle)
+    row (codes "up") (read_as (placed links no_more) (λ p. Up p.0 p.1))
+    ∷ row (codes "down") (read_as (placed links no_more) (λ p. Down p.0 p.1))
+    ∷ row (codes "open") (read_as (placed links last_protocol) (λ p. AdminOpen p.0 p.1 p.2))
+    ∷ row (codes "close") (read_as (placed links last_protocol) (λ p. AdminClose p.0 p.1 p.2))
+    ∷ row (codes "timeout") (read_as (placed links last_protocol) (λ p. Timeout p.0 p.1 p.2))
+    ∷ row (codes "deliver") (read_as (placed links no_more) (λ p. Deliver p.0 p.1))
+    ∷ row (codes "lose") (read_as (placed links (last_number 1 MOST_PLACE)) (λ p. Lose p.0 p.1 p.2))
+    ∷ row (codes "settle") (read_as (last_number 1 MOST_SETTLED) Settle)
     ∷ row (codes "show") (read_as no_more (λ nothing. Show))
     ∷ []
 

@@ -2,8 +2,9 @@
 
 ghost use Rattle.std.specs.Prelude.{◌≡◌, ◌≤◌, IfOk, Some};
 ghost use Rattle.ppp_script.specs.declared.event.TheConstants.{MOST_PLACE, MOST_SETTLED};
-ghost use Rattle.ppp_script.specs.Event.{steps_in, IsWithin, event_text, place_in, link_line, protocol_line, lose_line, settle_line, event_in, event_of, event_form};
-ghost use Rattle.ppp_script.specs.Field.{IsLink, IsNamed};
+ghost use Rattle.ppp_script.specs.Event.{steps_in, IsWithin, event_text, place_in, placed, last_protocol, last_number, event_in, event_of, event_form};
+ghost use Rattle.ppp_script.specs.Field.{no_more, IsLink, IsNamed};
+ghost use Rattle.ppp_script.specs.Results.{Gives};
 
 use crate::end::End;
 use crate::field::{end, link, next_field, no_more, number_field, protocol};
@@ -100,9 +101,9 @@ fn place<'a>(fields: &Fields<'a>, links: u8) -> Result<(End, u8, Fields<'a>), Li
 }
 
 /// Reads `E L`.
-#[tactic(auto, unfolding(crate::specs::Event::link_line))]
+#[tactic(auto, unfolding(crate::specs::Event::placed))]
 fn read_link(fields: &Fields<'_>, links: u8) -> Result<(End, u8), LineWhy>
-    ensures value { result ≡ link_line links fields.now }
+    ensures value { Gives (λ x. (x.0, x.1, tt)) result (placed links no_more fields.now) }
     ensures within { IfOk result (λ x. IsLink links x.1) }
 {
     let (end, link, fields) = place(fields, links)?;
@@ -111,41 +112,49 @@ fn read_link(fields: &Fields<'_>, links: u8) -> Result<(End, u8), LineWhy>
 }
 
 /// Reads `E L P`.
-#[tactic(auto, unfolding(crate::specs::Event::protocol_line))]
+#[tactic(auto, unfolding(crate::specs::Event::placed))]
 fn read_protocol(fields: &Fields<'_>, links: u8) -> Result<(End, u8, Proto), LineWhy>
-    ensures value { result ≡ protocol_line links fields.now }
+    ensures value { result ≡ placed links last_protocol fields.now }
     ensures within { IfOk result (λ x. IsLink links x.1 × IsNamed x.2) }
 {
     let (end, link, fields) = place(fields, links)?;
-    let (third, fields) = next_field(&fields)?;
-    let protocol = protocol(third)?;
-    no_more(&fields)?;
+    let protocol = last_protocol(&fields)?;
     Ok((end, link, protocol))
 }
 
 /// Reads `E L K`.
-#[tactic(auto, unfolding(crate::specs::Event::lose_line))]
+#[tactic(auto, unfolding(crate::specs::Event::placed))]
 fn read_lose(fields: &Fields<'_>, links: u8) -> Result<(End, u8, u16), LineWhy>
-    ensures value { result ≡ lose_line links fields.now }
+    ensures value { result ≡ placed links (last_number 1 MOST_PLACE) fields.now }
     ensures within { IfOk result (λ x. IsLink links x.1 × ((1 ≤ x.2) × (x.2 ≤ MOST_PLACE))) }
 {
     let (end, link, fields) = place(fields, links)?;
-    let (third, fields) = next_field(&fields)?;
-    let place = number_field(third, 1, MOST_PLACE)?;
-    no_more(&fields)?;
+    let place = last_number(&fields, 1, MOST_PLACE)?;
     Ok((end, link, place))
 }
 
-/// Reads `N`.
-#[tactic(auto, unfolding(crate::specs::Event::settle_line))]
-fn read_settle(fields: &Fields<'_>) -> Result<u16, LineWhy>
-    ensures value { result ≡ settle_line fields.now }
-    ensures within { IfOk result (λ n. (1 ≤ n) × (n ≤ MOST_SETTLED)) }
+/// Reads `P`, and no more.
+#[tactic(auto, unfolding(crate::specs::Event::last_protocol))]
+fn last_protocol(fields: &Fields<'_>) -> Result<Proto, LineWhy>
+    ensures value { result ≡ last_protocol fields.now }
+    ensures named { IfOk result IsNamed }
 {
     let (first, fields) = next_field(fields)?;
-    let count = number_field(first, 1, MOST_SETTLED)?;
+    let protocol = protocol(first)?;
     no_more(&fields)?;
-    Ok(count)
+    Ok(protocol)
+}
+
+/// Reads a number within these bounds, and no more.
+#[tactic(auto, unfolding(crate::specs::Event::last_number))]
+fn last_number(fields: &Fields<'_>, least: u16, most: u16) -> Result<u16, LineWhy>
+    ensures value { result ≡ last_number least most fields.now }
+    ensures within { IfOk result (λ n. (least ≤ n) × (n ≤ most)) }
+{
+    let (first, fields) = next_field(fields)?;
+    let number = number_field(first, least, most)?;
+    no_more(&fields)?;
+    Ok(number)
 }
 
 /// The event of a line with this first field, and these behind it.
@@ -176,7 +185,7 @@ fn read_fields(word: &[u8], fields: &Fields<'_>, links: u8) -> Result<Event, Lin
         let (end, link, place) = read_lose(fields, links)?;
         Ok(Event::Lose(end, link, place))
     } else if word == b"settle".as_slice() {
-        Ok(Event::Settle(read_settle(fields)?))
+        Ok(Event::Settle(last_number(fields, 1, MOST_SETTLED)?))
     } else if word == b"show".as_slice() {
         no_more(fields)?;
         Ok(Event::Show)
