@@ -9,7 +9,12 @@ pub enum ScriptFault {
     /// There wasn't enough memory.
     #[error("out of memory")]
     Memory,
-    /// A line is refused, the first such. Lines are counted from 1.
+    /// A line is refused, the first such.
     #[error("line {line} {why}")]
-    Refused { line: u32, why: LineWhy },
+    Refused {
+        /// The number of the line, from 1 on.
+        line: u32,
+        /// Why it is refused.
+        why: LineWhy,
+    },
 }
