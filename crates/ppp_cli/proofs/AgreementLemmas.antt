@@ -2,17 +2,17 @@
 use Rattle.std.proofs.Common.{List, ℕ}
 use Rattle.std.specs.Prelude.{Option, Some, None, Result, Ok, Err}
 use Rattle.ppp_cli.specs.Agreement.{AgreesIfRead, AgreesIfReplayed}
-use Rattle.ppp_cli.specs.declared.reply.TheConstants.{LINKS}
 use Rattle.ppp_cli.specs.declared.command.Command.{Command}
 use Rattle.ppp_cli.specs.declared.command.Command.TheVariants.{Replay}
+use Rattle.ppp_cli.specs.declared.reply.TheConstants.{LINKS}
 use Rattle.ppp_script.specs.Lines.{script_in}
 use Rattle.ppp_script.specs.Script.{Refusal, events_of}
 use Rattle.ppp_script.specs.declared.event.Event.{Event}
-use Rattle.ppp_world.specs.Run.{run_of, before_refusal}
-use Rattle.ppp_world.proofs.Agreeing.{each_agrees, none_disagrees}
+use Rattle.ppp_world.proofs.RunLemmas.{each_agrees, ranged_by_default}
+use Rattle.ppp_world.specs.Settings.{default_settings}
 
 agrees_if_read : (read : Result (List Event) Refusal) → AgreesIfRead read
-agrees_if_read (Ok events) = let each = each_agrees events in record { each = each; none = none_disagrees (before_refusal (run_of events)) each }
+agrees_if_read (Ok events) = each_agrees default_settings ranged_by_default events
 agrees_if_read (Err refused) = tt
 
 pub agrees_if_replayed : (command : Option Command) (told : Option (List ℕ)) → AgreesIfReplayed command told

@@ -1,5 +1,5 @@
 -- What the program answers and writes where nothing fails.
-use Rattle.std.specs.Prelude.{ℕ, Bool, ◌||◌, nat_lt, if◌then◌else◌, List, [], ◌∷◌, ◌++◌, length, Option, Some, None, Result, Ok, Err, codes}
+use Rattle.std.specs.Prelude.{ℕ, Bool, ◌||◌, nat_lt, if◌then◌else◌, List, ◌++◌, length, Option, Some, None, Result, Ok, Err, codes}
 use Rattle.std.specs.Fmt.{decimal}
 use Rattle.std.specs.Str.{bytes_eq}
 use Rattle.ppp_cli.specs.declared.command.Command.{Command}
@@ -9,14 +9,15 @@ use Rattle.ppp_cli.specs.declared.reply.Reply.{Reply as Reply'}
 use Rattle.ppp_cli.specs.declared.reply.TheConstants.{LINKS}
 use Rattle.ppp_cli.specs.declared.status.Status.{Status}
 use Rattle.ppp_cli.specs.declared.status.Status.TheVariants.{Ok as Fine, BadWords, TooLong, BadLine, Outstanding, NotBuilt}
-use Rattle.ppp_script.specs.declared.event.End.{End}
-use Rattle.ppp_script.specs.declared.event.End.TheVariants.{A, B}
+use Rattle.ppp_script.specs.Lines.{settings_in, script_in}
+use Rattle.ppp_script.specs.Script.{Refusal as Refusal', events_of}
 use Rattle.ppp_script.specs.declared.event.Event.{Event}
 use Rattle.ppp_script.specs.declared.fault.LineWhy.{LineWhy}
-use Rattle.ppp_script.specs.declared.fault.LineWhy.TheVariants as why
-use Rattle.ppp_script.specs.Lines.{settings_in, script_in}
-use Rattle.ppp_script.specs.Script.{Refusal, events_of}
-use Rattle.ppp_world.specs.Run.{Moment, run_of, report, Refused, refusal, before_refusal}
+use Rattle.ppp_script.specs.declared.fault.LineWhy.TheVariants.{Event as NoEvent, Link, Steps}
+use Rattle.ppp_world.specs.Refusal.{refusal_text}
+use Rattle.ppp_world.specs.Run.{Moment, run_of, report, refusal, before_refusal}
+use Rattle.ppp_world.specs.Settings.{default_settings}
+use Rattle.ppp_world.specs.declared.refusal.Refusal.{Refusal}
 
 pub record Reply : Type 0 where
   pub status : Status
@@ -42,36 +43,26 @@ too_long_line = codes "too long\n"
 abbrev pub not_built_line : List ℕ
 not_built_line = codes "not built\n"
 
+abbrev pub why_name : LineWhy → List ℕ
+why_name NoEvent = codes "Event"
+why_name Link = codes "Link"
+why_name Steps = codes "Steps"
+
 -- `line K WHY`
-abbrev pub why_text : LineWhy → List ℕ
-why_text why.Event = codes "Event"
-why_text why.Link = codes "Link"
-why_text why.Steps = codes "Steps"
-
 abbrev pub bad_line : ℕ → LineWhy → List ℕ
-bad_line line why = codes "line " ++ decimal line ++ 32 ∷ (why_text why ++ 10 ∷ [])
+bad_line line why = codes "line " ++ decimal line ++ codes " " ++ why_name why ++ codes "\n"
 
-abbrev pub end_text : End → List ℕ
-end_text A = codes "a"
-end_text B = codes "b"
-
--- `outstanding step K end E link 1 lcp sent S oldest O`
-abbrev pub step_text : ℕ → End → List ℕ
-step_text step end = codes "outstanding step " ++ decimal step ++ codes " end " ++ end_text end
-
-abbrev pub span_text : ℕ → ℕ → List ℕ
-span_text sent oldest = codes " link 1 lcp sent " ++ decimal sent ++ codes " oldest " ++ decimal oldest ++ codes "\n"
-
-abbrev pub outstanding_line : Refused → List ℕ
-outstanding_line r = step_text r.number r.width.end ++ span_text r.width.sent r.width.oldest
+abbrev pub refusal_line : Refusal → List ℕ
+refusal_line refused = refusal_text refused ++ codes "\n"
 
 -- the report of a run, or of its steps before the one that is refused and the line of that
-abbrev pub reply_to_run : List Moment → Option Refused → Reply
+abbrev pub reply_to_run : List Moment → Option Refusal → Reply
 reply_to_run run None = says Fine (report run)
-reply_to_run run (Some r) = says (Outstanding r.number) (report (before_refusal run) ++ outstanding_line r)
+reply_to_run run (Some refused) =
+    says (Outstanding refused.step) (report (before_refusal run) ++ refusal_line refused)
 
-abbrev pub reply_to_events : Result (List Event) Refusal → Reply
-reply_to_events (Ok events) = let run = run_of events in reply_to_run run (refusal run)
+abbrev pub reply_to_events : Result (List Event) Refusal' → Reply
+reply_to_events (Ok events) = let run = run_of default_settings events in reply_to_run run (refusal run)
 reply_to_events (Err refused) = says (BadLine refused.line) (bad_line refused.line refused.why)
 
 -- the settings that are built: this one line, ended by LF or by the end of the input

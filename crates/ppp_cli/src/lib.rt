@@ -5,7 +5,6 @@
 
 mod command;
 mod input;
-mod line;
 mod output;
 mod process;
 mod reply;

@@ -1,17 +1,15 @@
 //! What is replied to a text.
 
-ghost use Rattle.std.specs.Prelude.{◌≡◌, ◌≤◌, ◌++◌, length, IfOk, string_bytes, bytes_eq};
-ghost use Rattle.ppp_cli.specs.Reply.{bad_line, is_built, not_built_line, reply_seen, reply_to_events, reply_to_text, says};
+ghost use Rattle.std.specs.Prelude.{◌≡◌, ◌≤◌, length, IfOk, Ok};
+ghost use Rattle.ppp_cli.specs.Reply.{bad_line, is_built, not_built_line, reply_seen, reply_to_events, reply_to_text, says, why_name};
 ghost use Rattle.ppp_cli.specs.Status.{IsOfText};
 ghost use Rattle.ppp_cli.specs.declared.input.TheConstants.{MOST_OCTETS};
 ghost use Rattle.ppp_cli.specs.declared.status.Status.TheVariants.{BadLine, NotBuilt};
-ghost use Rattle.std.specs.Prelude.{Ok};
 
-use crate::line::{put_bad_line, put_outstanding};
 use crate::status::Status;
 use ppp_io::Memory;
 use ppp_script::{LineWhy, Script, ScriptFault, part_input, read_script};
-use ppp_world::replay;
+use ppp_world::{Replayed, replay};
 use std::alloc::Global;
 
 /// The links that are configured.
@@ -64,12 +62,23 @@ fn refuse_line(alloc: Global, line: u32, why: LineWhy) -> Result<Reply, Memory>
     ensures reply { IfOk result (λ reply. reply_seen reply ≡ says (BadLine line) (bad_line line why)) }
     ensures of_text { IfOk result (λ reply. IsOfText reply.status) }
 {
-    let mut octets = Vec::new(alloc);
-    put_bad_line(&mut octets, alloc, line, why)?;
+    let why = why_name(why);
+    let text = format!(in alloc; "line {line} {why}\n")?;
     Ok(Reply {
         status: Status::BadLine(line),
-        octets,
+        octets: text.into_bytes(),
     })
+}
+
+/// The word for a cause.
+fn why_name(why: LineWhy) -> &'static str
+    ensures { result.now ≡ why_name why }
+{
+    match why {
+        LineWhy::Event => "Event",
+        LineWhy::Link => "Link",
+        LineWhy::Steps => "Steps",
+    }
 }
 
 /// Replays a script, and replies with its report; where a step is refused the report is that of the steps before it, and
@@ -78,19 +87,18 @@ fn reply_to_script(alloc: Global, script: &Script) -> Result<Reply, Memory>
     ensures reply { IfOk result (λ reply. reply_seen reply ≡ reply_to_events (Ok script.now)) }
     ensures of_text { IfOk result (λ reply. IsOfText reply.status) }
 {
-    let replayed = replay(alloc, script)?;
-    let mut octets = replayed.report;
-    match replayed.refused {
-        None => Ok(Reply {
+    let Replayed { report, refused } = replay(alloc, script)?;
+    let mut octets = report;
+    let Some(refusal) = refused else {
+        return Ok(Reply {
             status: Status::Ok,
             octets,
-        }),
-        Some(refusal) => {
-            put_outstanding(&mut octets, alloc, &refusal)?;
-            Ok(Reply {
-                status: Status::Outstanding(refusal.step),
-                octets,
-            })
-        }
-    }
+        });
+    };
+    let line = format!(in alloc; "{refusal}\n")?;
+    octets.extend_from_slice(line.as_bytes())?;
+    Ok(Reply {
+        status: Status::Outstanding(refusal.step),
+        octets,
+    })
 }
