@@ -5,7 +5,8 @@ use Rattle.ppp_cli.specs.Reply.{Reply, read_fault_line, configured_links}
 use Rattle.ppp_cli.specs.Writing.{PutsFront}
 use Rattle.ppp_cli.specs.declared.words.Command.{Command}
 use Rattle.ppp_cli.specs.declared.words.Command.TheVariants.{Replay}
-use Rattle.ppp_script.specs.Lines.{script_in}
+use Rattle.ppp_text.specs.Parts.{script_in}
+use Rattle.ppp_script.specs.Event.{event_form}
 use Rattle.ppp_script.specs.Script.{Refusal, events_of}
 use Rattle.ppp_script.specs.declared.event.Event.{Event}
 use Rattle.ppp_world.specs.Agreed.{EachAgrees, NoneDisagrees}
@@ -44,4 +45,4 @@ AgreesIfRead (Err refused) = ⊤
 abbrev pub AgreesIfReplayed : Option Command → Option (List ℕ) → Type 0
 AgreesIfReplayed None told = ⊤
 AgreesIfReplayed (Some Replay) None = ⊤
-AgreesIfReplayed (Some Replay) (Some text) = AgreesIfRead (events_of configured_links (script_in text))
+AgreesIfReplayed (Some Replay) (Some text) = AgreesIfRead (events_of event_form configured_links (script_in text))

@@ -6,12 +6,13 @@ use Rattle.ppp_cli.specs.declared.words.Command.{Command}
 use Rattle.ppp_cli.specs.declared.words.Command.TheVariants.{Replay}
 use Rattle.ppp_cli.specs.declared.status.Status.{Status}
 use Rattle.ppp_cli.specs.declared.status.Status.TheVariants.{Ok as Fine, BadWords, TooLong, BadLine, Outstanding, NotBuilt}
-use Rattle.ppp_script.specs.declared.event.End.{End}
-use Rattle.ppp_script.specs.declared.event.End.TheVariants.{A, B}
+use Rattle.ppp_script.specs.declared.end.End.{End}
+use Rattle.ppp_script.specs.declared.end.End.TheVariants.{A, B}
 use Rattle.ppp_script.specs.declared.event.Event.{Event}
-use Rattle.ppp_script.specs.declared.fault.LineWhy.{LineWhy}
-use Rattle.ppp_script.specs.declared.fault.LineWhy.TheVariants as why
-use Rattle.ppp_script.specs.Lines.{settings_in, script_in}
+use Rattle.ppp_script.specs.declared.line_why.LineWhy.{LineWhy}
+use Rattle.ppp_script.specs.declared.line_why.LineWhy.TheVariants as why
+use Rattle.ppp_text.specs.Parts.{settings_in, script_in}
+use Rattle.ppp_script.specs.Event.{event_form}
 use Rattle.ppp_script.specs.Script.{Refusal, events_of}
 use Rattle.ppp_world.specs.Run.{Moment, run_of, report, Refused, refusal, before_refusal}
 
@@ -82,7 +83,7 @@ most_octets = 1048576
 abbrev pub reply_to_text : List ℕ → Reply
 reply_to_text text =
     if nat_lt most_octets (length text) then says TooLong too_long_line
-    else if is_built (settings_in text) then reply_to_events (events_of configured_links (script_in text))
+    else if is_built (settings_in text) then reply_to_events (events_of event_form configured_links (script_in text))
     else says NotBuilt not_built_line
 
 -- The reply to words and to the input's octets: None where a source that doesn't tell them decides it.

@@ -9,7 +9,8 @@ ghost use Rattle.std.specs.Prelude.{Ok};
 use crate::line::{put_bad_line, put_outstanding};
 use crate::status::Status;
 use ppp_io::Memory;
-use ppp_script::{LineWhy, Script, ScriptFault, part_input, read_script};
+use ppp_script::{Event, LineWhy, Script, ScriptFault, read_script};
+use ppp_text::part_input;
 use ppp_world::replay;
 use std::alloc::Global;
 
@@ -73,7 +74,7 @@ fn refuse_line(alloc: Global, line: u32, why: LineWhy) -> Result<Reply, Memory>
 
 /// Replays a script, and replies with its report; where a step is refused the report is that of the steps before it, and
 /// the line of the refusal follows.
-fn answer_script(alloc: Global, script: &Script) -> Result<Reply, Memory>
+fn answer_script(alloc: Global, script: &Script<Event>) -> Result<Reply, Memory>
     ensures reply { IfOk result (λ reply. told reply ≡ reply_to_events (Ok script.now)) }
     ensures plain { IfOk result (λ reply. IsPlain reply.status) }
 {

@@ -1,11 +1,12 @@
 -- Facts on endpoint discriminators: their fields are in the order of the addresses as lists.
-use Rattle.std.proofs.Common.{Ordering, ◌≡◌, ℕ, zero, suc, ◌+◌, ◌-◌, List, [], ◌∷◌, ◌++◌, length, take, replicate, length-append, refl, arith}
+use Rattle.std.proofs.Common.{Ordering, ◌≡◌, ℕ, zero, suc, ◌+◌, ◌-◌, List, [], ◌∷◌, ◌++◌, length, take, replicate, length-append, refl, ap, arith}
 use Rattle.std.specs.declared.cmp.Ordering.TheVariants.{Less, Equal, Greater}
 use Rattle.std.specs.Ordering.{ordering_then, nat_cmp}
 use Rattle.std.specs.Cmp.Lexicographic.{slice_cmp}
 use Rattle.std.proofs.lemmas.List.{take-append-drop, length-take-le, length-replicate}
 use Rattle.std.proofs.lemmas.Bool.Decides.{nat_tests}
-use Rattle.ppp_packet.specs.Disc.{IsAddress}
+use Rattle.ppp_packet.specs.Disc.{IsAddress, disc_order}
+use Rattle.ppp_packet.specs.declared.disc.Disc.{Disc}
 
 then_same : (first second third rest : Ordering) → ordering_then second third ≡ rest → ordering_then (ordering_then first second) third ≡ ordering_then first rest
 then_same Less second third rest same = refl
@@ -58,7 +59,7 @@ padded_order (x ∷ xs) (y ∷ ys) m n same =
     (padded_order xs ys m n (omega arith)))
 
 -- twenty octets and a size are in the order of the addresses
-pub address_order : (xs ys : List ℕ) (m n : ℕ) → IsAddress xs m → IsAddress ys n →
+address_order : (xs ys : List ℕ) (m n : ℕ) → IsAddress xs m → IsAddress ys n →
     ordering_then (slice_cmp nat_cmp xs ys) (nat_cmp m n) ≡ slice_cmp nat_cmp (take m xs) (take n ys)
 address_order xs ys m n left right =
     let m_size : length (take m xs) ≡ m = length-take-le m xs (omega (arith, left.within, left.whole)) in
@@ -67,3 +68,10 @@ address_order xs ys m n left right =
     let ys_is : take n ys ++ replicate (20 - n) 0 ≡ ys = rw (← right.zeros) (take-append-drop n ys) in
     let order = padded_order (take m xs) (take n ys) (20 - m) (20 - n) (omega (arith, left.within, right.within)) in
     rw (xs_is, ys_is, m_size, n_size) at order
+
+-- the order by the three fields, one behind the other
+pub disc_order-fields : (one other : Disc) →
+    ordering_then (nat_cmp one.class other.class) (ordering_then (slice_cmp nat_cmp one.address other.address) (nat_cmp one.size other.size)) ≡
+    disc_order one.class (take one.size one.address) other.class (take other.size other.address)
+disc_order-fields one other =
+    ap (ordering_then (nat_cmp one.class other.class)) (address_order one.address other.address one.size other.size one.is_address other.is_address)

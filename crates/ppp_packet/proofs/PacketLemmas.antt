@@ -4,24 +4,21 @@ use Rattle.std.specs.Prelude.{Some, None, ◌||◌, nat_lt, if◌then◌else◌,
 use Rattle.std.proofs.lemmas.List.{take_at, take-append-drop, length-take-le}
 use Rattle.std.proofs.lemmas.Bool.{le-ltb, lt-ltb, ltb-false}
 use Rattle.byteorder.specs.Endian.{big_number}
-use Rattle.ppp_packet.specs.Packet.{packet_octets, IsPacket, RawPacket, raw_packet_of}
-
-abbrev raw : ℕ → ℕ → List ℕ → RawPacket
-raw code id rest = record { code = code; id = id; rest = rest }
+use Rattle.ppp_packet.specs.Packet.{packet_octets, IsPacket, RawPacket, raw_packet, raw_packet_of}
 
 or_true : (a : Bool) → (a || true) ≡ true
 or_true false = refl
 or_true true = refl
 
 pub raw_packet_of-packet_octets : (code id : ℕ) (rest padding : List ℕ) →
-    raw_packet_of (packet_octets code id rest ++ padding) ≡ Some (record { code = code; id = id; rest = rest })
+    raw_packet_of (packet_octets code id rest ++ padding) ≡ Some (raw_packet code id rest)
 raw_packet_of-packet_octets code id rest padding =
     let size : (4 + length rest) / 256 * 256 + (4 + length rest) % 256 ≡ 4 + length rest = omega arith in
     let whole : length rest ≡ 4 + length rest - 4 = omega arith in
     rw (size, le-ltb (4 + length rest) 4 (omega arith), le-ltb (length (rest ++ padding)) (4 + length rest - 4) (omega (arith, length-append rest padding)), take_at rest padding (4 + length rest - 4) whole) refl
 
 pub raw_packet_of-IsPacket : (code id : ℕ) (rest bytes : List ℕ) → IsPacket code id rest bytes →
-    raw_packet_of bytes ≡ Some (record { code = code; id = id; rest = rest })
+    raw_packet_of bytes ≡ Some (raw_packet code id rest)
 raw_packet_of-IsPacket code id rest bytes is = ap raw_packet_of is.1 ∙ raw_packet_of-packet_octets code id rest is.0
 
 pub raw_packet_of-short : (bytes : List ℕ) → length bytes < 4 → raw_packet_of bytes ≡ None
@@ -37,7 +34,7 @@ raw_packet_of-misfit code id high low size rest is (inl low_size) = rw (← is, 
 raw_packet_of-misfit code id high low size rest is (inr high_size) = rw (← is, lt-ltb (length rest) (size - 4) (omega arith), or_true (nat_lt size 4)) refl
 
 pub raw_packet_of-whole : (code id high low size : ℕ) (rest : List ℕ) → size ≡ high * 256 + low → 4 ≤ size → size ≤ 4 + length rest →
-    raw_packet_of (code ∷ id ∷ high ∷ low ∷ rest) ≡ Some (record { code = code; id = id; rest = take (size - 4) rest })
+    raw_packet_of (code ∷ id ∷ high ∷ low ∷ rest) ≡ Some (raw_packet code id (take (size - 4) rest))
 raw_packet_of-whole code id high low size rest is least room = rw (← is, le-ltb size 4 least, le-ltb (length rest) (size - 4) (omega arith)) refl
 
 -- a Length of two octets
@@ -69,14 +66,14 @@ or_false true b e = absurd (cc)
 
 read_step : (code id high low : ℕ) (rest : List ℕ) (misfit : Bool) (p : RawPacket) → low < 256 →
     (nat_lt (high * 256 + low) 4 || nat_lt (length rest) (high * 256 + low - 4)) ≡ misfit →
-    (if misfit then None else Some (raw code id (take (high * 256 + low - 4) rest))) ≡ Some p →
+    (if misfit then None else Some (raw_packet code id (take (high * 256 + low - 4) rest))) ≡ Some p →
     IsPacket p.code p.id p.rest (code ∷ id ∷ high ∷ low ∷ rest)
 read_step code id high low rest true p octet is same = absurd (cc)
 read_step code id high low rest false p octet is same =
     let tests = or_false (nat_lt (high * 256 + low) 4) (nat_lt (length rest) (high * 256 + low - 4)) is in
     let least : 4 ≤ high * 256 + low = ltb-false (high * 256 + low) 4 tests.0 in
     let room : high * 256 + low - 4 ≤ length rest = ltb-false (length rest) (high * 256 + low - 4) tests.1 in
-    let found : raw code id (take (high * 256 + low - 4) rest) ≡ p = cc in
+    let found : raw_packet code id (take (high * 256 + low - 4) rest) ≡ p = cc in
     let whole : IsPacket code id (take (high * 256 + low - 4) rest) (code ∷ id ∷ high ∷ low ∷ rest) =
     IsPacket-whole code id high low (high * 256 + low) rest refl octet least (omega arith) in
     let P : RawPacket → Type 0 = λ q. IsPacket q.code q.id q.rest (code ∷ id ∷ high ∷ low ∷ rest) in

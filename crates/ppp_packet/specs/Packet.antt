@@ -18,10 +18,14 @@ pub record RawPacket : Type 0 where
   pub id : ℕ
   pub rest : List ℕ
 
+-- a packet with this Code, this Identifier and this rest
+abbrev pub raw_packet : ℕ → ℕ → List ℕ → RawPacket
+raw_packet code id rest = record { code = code; id = id; rest = rest }
+
 -- The packet that octets are, as a reader finds it: None where the header isn't whole, or its Length is below 4 or above what came.
 abbrev pub raw_packet_of : List ℕ → Option RawPacket
 raw_packet_of (code ∷ id ∷ high ∷ low ∷ rest) =
     if nat_lt (high * 256 + low) 4 || nat_lt (length rest) (high * 256 + low - 4)
     then None
-    else Some (record { code = code; id = id; rest = take (high * 256 + low - 4) rest })
+    else Some (raw_packet code id (take (high * 256 + low - 4) rest))
 raw_packet_of bytes = None

@@ -1,4 +1,4 @@
-//! PPP control packets and lists of Configuration Options (RFC 1661, sections 5 and 6). No call takes memory.
+//! PPP control packets and lists of Configuration Options (RFC 1661 sections 5 and 6). No call takes memory.
 #![tactic(auto)]
 
 mod code;
@@ -12,13 +12,13 @@ mod packet_ref;
 mod proto;
 
 pub use code::{Code, UnknownCode};
-pub use disc::Disc;
+pub use disc::{Disc, MOST_ADDRESS};
 pub use law::read_again;
-pub use opt::Opt;
-pub use opt_list::{NoRoom, OptList, write_options};
+pub use opt::{MOST_KEPT_BODY, Opt};
+pub use opt_list::{MOST_LIST, NoRoom, OptList, write_options};
 pub use opt_ref::OptRef;
-pub use options::{Options, read_options};
-pub use packet_ref::{PacketRef, read_packet, write_packet};
+pub use options::{MOST_BODY, OPTION_HEADER, Options, read_options};
+pub use packet_ref::{MOST_DATA, PACKET_HEADER, PacketRef, read_packet, write_packet};
 pub use proto::Proto;
 
 #[cfg(test)]

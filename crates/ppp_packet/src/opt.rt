@@ -3,16 +3,20 @@
 ghost use Rattle.std.specs.Prelude.{◌≡◌, ◌≤◌, ◌↔◌, length, IsTrue};
 ghost use Rattle.ppp_packet.specs.Options.{option_with};
 ghost use Rattle.ppp_packet.specs.OptRef.{option_seen};
+ghost use Rattle.ppp_packet.specs.declared.opt.TheConstants.{MOST_KEPT_BODY};
 
 use crate::opt_ref::OptRef;
 use arrayvec::ArrayVec;
 use std::marker::Model;
 
+/// The most octets of the body of an option that is kept by value.
+pub const MOST_KEPT_BODY: usize = 32;
+
 /// A Configuration Option with a body of at most 32 octets, kept by value and seen as its Type and its body.
-#[derive(Drop)]
+#[derive(Debug, Drop)]
 pub struct Opt {
     kind: u8,
-    body: ArrayVec<u8, 32>,
+    body: ArrayVec<u8, MOST_KEPT_BODY>,
 }
 
 impl Model for Opt {
@@ -27,7 +31,7 @@ impl Model for Opt {
 impl Opt {
     /// An option of this Type with this body.
     pub fn new(kind: u8, body: &[u8]) -> Opt
-        requires { length body.now ≤ 32 }
+        requires { length body.now ≤ MOST_KEPT_BODY }
         ensures { result ≡ option_with kind body.now }
     {
         let mut kept = ArrayVec::new();
@@ -45,7 +49,7 @@ impl Opt {
     /// The body, of at most 32 octets.
     pub fn body(&self) -> &[u8]
         ensures value { result.now ≡ self.now.body }
-        ensures size { length result.now ≤ 32 }
+        ensures size { length result.now ≤ MOST_KEPT_BODY }
     {
         self.body.as_slice()
     }
@@ -53,7 +57,7 @@ impl Opt {
     /// The option as a reader lends it.
     pub fn as_ref(&self) -> OptRef<'_>
         ensures value { option_seen result ≡ self.now }
-        ensures size { length result.body.now ≤ 32 }
+        ensures size { length result.body.now ≤ MOST_KEPT_BODY }
     {
         OptRef {
             kind: self.kind,

@@ -2,17 +2,17 @@
 
 ghost use Rattle.std.specs.Prelude.{◌≡◌, ◌≢◌, ◌+◌, ◌<◌, ◌≤◌, ◌↔◌, ◌⊎◌, [], ◌∷◌, ◌++◌, length, drop, IsTrue, IsErr, IsNone, OnOk, OnErr, IfOk, MatchOption, Some, None, All};
 ghost use Rattle.ppp_packet.specs.Options.{written, option_octets, option_with, HoldsOptions, list_of, find_kind};
+ghost use Rattle.ppp_packet.specs.OptList.{IsTooLong};
+ghost use Rattle.ppp_packet.specs.declared.opt_list.TheConstants.{MOST_LIST};
+ghost use Rattle.ppp_packet.specs.declared.options.TheConstants.{MOST_BODY, OPTION_HEADER};
 
-use crate::options::Options;
+use crate::options::{MOST_BODY, OPTION_HEADER, Options};
 use arrayvec::ArrayVec;
 use std::marker::Model;
 use thiserror::Error;
 
 /// The most octets that a kept list has when it is written.
-const MOST_OCTETS: usize = 128;
-
-/// The most octets that an option's body has: its Length, one octet, counts two more.
-const MOST_BODY: usize = 253;
+pub const MOST_LIST: usize = 128;
 
 /// A list of options doesn't take what it was to hold.
 #[derive(Debug, Drop, Error)]
@@ -22,7 +22,7 @@ pub struct NoRoom;
 /// A list of options that has at most 128 octets when written, kept by value and seen as that list.
 #[derive(Drop)]
 pub struct OptList {
-    octets: ArrayVec<u8, 128>,
+    octets: ArrayVec<u8, MOST_LIST>,
 }
 
 impl Model for OptList {
@@ -50,7 +50,7 @@ impl OptList {
     /// Puts an option at the end. NoRoom exactly where its body has more than 253 octets or the list would
     /// have more than 128 when written; then the list stays as it was.
     pub fn push(&mut self, kind: u8, body: &[u8]) -> Result<(), NoRoom>
-        ensures no_room { IsErr result ↔ ((253 < length body.now) ⊎ (128 < length (written (self.old ++ option_with kind body.now ∷ [])))) }
+        ensures no_room { IsErr result ↔ IsTooLong self.old (option_with kind body.now) }
         ensures ok { OnOk result (self.new ≡ self.old ++ option_with kind body.now ∷ []) }
         ensures err { OnErr result (self.new ≡ self.old) }
     {
@@ -59,7 +59,7 @@ impl OptList {
 
     /// The same list, by value. NoRoom exactly where it has more than 128 octets.
     pub fn from_options(list: &Options<'_>) -> Result<OptList, NoRoom>
-        ensures no_room { IsErr result ↔ (128 < length (written list.now)) }
+        ensures no_room { IsErr result ↔ (MOST_LIST < length (written list.now)) }
         ensures ok { IfOk result (λ kept. kept ≡ list.now) }
     {
         let mut octets = ArrayVec::new();
@@ -71,7 +71,8 @@ impl OptList {
 
     /// The body of the first option of this Type. None exactly where the list has no option of it.
     pub fn find(&self, kind: u8) -> Option<&[u8]>
-        ensures first { MatchOption result (find_kind kind self.now ≡ None) (λ body. find_kind kind self.now ≡ Some body.now) }
+        ensures first { MatchOption result (find_kind kind self.now ≡ None)
+            (λ body. find_kind kind self.now ≡ Some body.now) }
         ensures none { IsNone result ↔ All (λ option. option.kind ≢ kind) self.now }
     {
         let mut left = self.options();
@@ -87,7 +88,7 @@ impl OptList {
     /// The octets of the list, at most 128.
     pub fn octets(&self) -> &[u8]
         ensures value { result.now ≡ written self.now }
-        ensures size { length result.now ≤ 128 }
+        ensures size { length result.now ≤ MOST_LIST }
     {
         self.octets.as_slice()
     }
@@ -137,16 +138,18 @@ pub fn write_options(out: &mut [u8], list: &OptList) -> usize
 }
 
 /// Puts the octets of an option behind those of a list.
-fn push_octets(octets: &mut ArrayVec<u8, 128>, kind: u8, body: &[u8]) -> Result<(), NoRoom>
-    ensures no_room { IsErr result ↔ ((253 < length body.now) ⊎ (128 < length octets.old.items + (2 + length body.now))) }
-    ensures ok { OnOk result (octets.new.items ≡ octets.old.items ++ option_octets (option_with kind body.now)) }
+fn push_octets(octets: &mut ArrayVec<u8, MOST_LIST>, kind: u8, body: &[u8]) -> Result<(), NoRoom>
+    ensures no_room { IsErr result ↔ ((MOST_BODY < length body.now)
+        ⊎ (MOST_LIST < length octets.old.items + (OPTION_HEADER + length body.now))) }
+    ensures ok { OnOk result
+        (octets.new.items ≡ octets.old.items ++ option_octets (option_with kind body.now)) }
     ensures err { OnErr result (octets.new.items ≡ octets.old.items) }
 {
-    if body.len() > MOST_BODY || octets.len() + 2 + body.len() > MOST_OCTETS {
+    if body.len() > MOST_BODY || octets.len() + OPTION_HEADER + body.len() > MOST_LIST {
         return Err(NoRoom);
     }
     octets.push(kind);
-    octets.push((2 + body.len()) as u8);
+    octets.push((OPTION_HEADER + body.len()) as u8);
     octets.try_extend_from_slice(body).unwrap();
     Ok(())
 }

@@ -1,18 +1,22 @@
-//! Lists of Configuration Options that lie in octets (RFC 1661, section 6).
+//! Lists of Configuration Options that lie in octets (RFC 1661 section 6).
 
 ghost use Rattle.std.specs.Prelude.{◌≡◌, ◌+◌, ◌<◌, ◌≤◌, ◌↔◌, List, [], ◌∷◌, ◌++◌, length, IsTrue, IfSome, IfNone, MatchOption, Some, slice_get, None, is_some};
 ghost use Rattle.ppp_packet.specs.ConfigOption.{ConfigOption};
 ghost use Rattle.ppp_packet.specs.Options.{written, option_octets, IsOptions, HoldsOptions, options_of, list_of};
+ghost use Rattle.ppp_packet.specs.declared.options.TheConstants.{MOST_BODY};
 ghost use Rattle.ppp_packet.specs.OptRef.{option_seen};
 
 use crate::opt_ref::OptRef;
 use std::marker::Model;
 
 /// The octets of an option's Type and Length.
-const OPTION_HEADER: usize = 2;
+pub const OPTION_HEADER: usize = 2;
+
+/// The most octets of an option's body: the Length, of one octet, counts Type and Length too.
+pub const MOST_BODY: usize = 253;
 
 /// Octets that are a list of options, seen as that list.
-#[derive(Drop)]
+#[derive(Debug, Drop)]
 pub struct Options<'a> {
     octets: &'a [u8],
 }
@@ -49,7 +53,7 @@ impl<'a> Options<'a> {
     pub fn at(&self, i: usize) -> OptRef<'a>
         requires { i < length self.now }
         ensures option { slice_get self.now i ≡ Some (option_seen result) }
-        ensures size { length result.body.now ≤ 253 }
+        ensures size { length result.body.now ≤ MOST_BODY }
     {
         option_at(self.octets, i)
     }
@@ -71,7 +75,7 @@ impl<'a> Options<'a> {
     /// The first option and the list of the others. None exactly where the list has no option.
     pub fn split_first(&self) -> Option<(OptRef<'a>, Options<'a>)>
         ensures parts { MatchOption result (self.now ≡ []) (λ r. self.now ≡ option_seen r.0 ∷ r.1) }
-        ensures size { IfSome result (λ r. length r.0.body.now ≤ 253) }
+        ensures size { IfSome result (λ r. length r.0.body.now ≤ MOST_BODY) }
     {
         let (option, behind) = first_of_list(self.octets)?;
         Some((option, Options { octets: behind }))
@@ -87,7 +91,7 @@ impl<'a> Options<'a> {
     }
 }
 
-/// Reads octets as a list of options (RFC 1661, section 6).
+/// Reads octets as a list of options (RFC 1661 section 6).
 /// None exactly where they aren't one: a Length below 2, or above what is left.
 pub fn read_options(bytes: &[u8]) -> Option<Options<'_>>
     ensures some { IfSome result (λ list. IsOptions list bytes.now) }
@@ -119,7 +123,7 @@ fn holds_options(bytes: &[u8]) -> bool
 fn first_option(octets: &[u8]) -> Option<(OptRef<'_>, &[u8])>
     requires { 0 < length octets.now }
     ensures begins { IfSome result (λ r. octets.now ≡ option_octets (option_seen r.0) ++ r.1.now) }
-    ensures size { IfSome result (λ r. length r.0.body.now ≤ 253) }
+    ensures size { IfSome result (λ r. length r.0.body.now ≤ MOST_BODY) }
     ensures none { IfNone result (options_of octets.now ≡ None) }
 {
     if octets.len() < OPTION_HEADER {
@@ -143,10 +147,11 @@ fn first_option(octets: &[u8]) -> Option<(OptRef<'_>, &[u8])>
 /// The first option of a list in octets, and the octets of the others.
 fn first_of_list(octets: &[u8]) -> Option<(OptRef<'_>, &[u8])>
     requires { HoldsOptions octets.now }
-    ensures parts { MatchOption result (list_of octets.now ≡ []) (λ r. list_of octets.now ≡ option_seen r.0 ∷ list_of r.1.now) }
+    ensures parts { MatchOption result (list_of octets.now ≡ [])
+        (λ r. list_of octets.now ≡ option_seen r.0 ∷ list_of r.1.now) }
     ensures holds { IfSome result (λ r. HoldsOptions r.1.now) }
     ensures shorter { IfSome result (λ r. length r.1.now < length octets.now) }
-    ensures size { IfSome result (λ r. length r.0.body.now ≤ 253) }
+    ensures size { IfSome result (λ r. length r.0.body.now ≤ MOST_BODY) }
 {
     if octets.is_empty() {
         return None;
@@ -173,7 +178,7 @@ fn option_at(octets: &[u8], i: usize) -> OptRef<'_>
     requires holds { HoldsOptions octets.now }
     requires within { i < length (list_of octets.now) }
     ensures option { slice_get (list_of octets.now) i ≡ Some (option_seen result) }
-    ensures size { length result.body.now ≤ 253 }
+    ensures size { length result.body.now ≤ MOST_BODY }
 {
     let mut ahead = i;
     let mut left = octets;

@@ -1,6 +1,9 @@
 //! Each public call once, over packets and options that RFC 1661 spells out.
 
-use crate::{Disc, Opt, OptList, Proto, read_options, read_packet, write_options, write_packet};
+use crate::{
+    Code, Disc, Opt, OptList, Proto, UnknownCode, read_options, read_packet, write_options,
+    write_packet,
+};
 
 /// Octets, and the packet in them: Code, Identifier, and the options as Type and Length of the body, if they read.
 #[derive(Clone, Copy)]
@@ -126,6 +129,30 @@ fn keeps_single_values(rt: HostRuntime) {
         "by the address"
     );
     assert!(rt; Disc::new(1, &[9]) < Disc::new(3, &[1]), "by the class");
-    assert!(rt; Proto::Lcp != Proto::Bacp, "two protocols");
     crate::read_again();
+}
+
+#[test]
+fn reads_codes_and_numbers_protocols(rt: HostRuntime) {
+    let rows = [
+        (0, Err(UnknownCode(0))),
+        (1, Ok(Code::ConfigureRequest)),
+        (11, Ok(Code::DiscardRequest)),
+        (12, Err(UnknownCode(12))),
+    ];
+    for (number, wanted) in rows {
+        assert_eq!(rt; Code::try_from(number), wanted);
+    }
+    assert_eq!(rt; Code::EchoReply.number(), 10);
+    let rows = [
+        (Proto::Lcp, 0xc021),
+        (Proto::Ip, 0x8021),
+        (Proto::Ipv6, 0x8057),
+        (Proto::Osi, 0x8023),
+        (Proto::Mpls, 0x8281),
+        (Proto::Bacp, 0xc02b),
+    ];
+    for (protocol, number) in rows {
+        assert_eq!(rt; protocol.number(), number);
+    }
 }

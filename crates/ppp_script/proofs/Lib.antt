@@ -1,4 +1,2 @@
-pub mod FieldLemmas
-pub mod LineLemmas
-pub mod NumberLemmas
+pub mod EventLemmas
 pub mod ScriptLemmas

@@ -1,8 +1,8 @@
-pub mod Events
-pub mod Fields
-pub mod Lines
-pub mod Numbers
-pub mod Progress
-pub mod Reading
+pub mod End
+pub mod Event
+pub mod Field
+pub mod Line
+pub mod LineWhy
 pub mod Results
 pub mod Script
+pub mod ScriptFault

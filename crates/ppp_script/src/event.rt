@@ -1,44 +1,205 @@
-ghost use Rattle.std.specs.Prelude.{◌≡◌};
-ghost use Rattle.ppp_script.specs.Events.{steps_in};
+//! The events of a replay, and the lines that read as them.
 
+ghost use Rattle.std.specs.Prelude.{◌≡◌, ◌≤◌, IfOk, Some};
+ghost use Rattle.ppp_script.specs.declared.event.TheConstants.{MOST_PLACE, MOST_SETTLED};
+ghost use Rattle.ppp_script.specs.Event.{steps_in, IsWithin, event_text, place_in, placed, last_protocol, last_number, event_in, event_of, event_form};
+ghost use Rattle.ppp_script.specs.Field.{no_more, IsLink, IsNamed};
+ghost use Rattle.ppp_script.specs.Results.{Gives};
+
+use crate::end::End;
+use crate::field::{end, link, next_field, no_more, number_field, protocol};
+use crate::line::Line;
+use crate::line_why::LineWhy;
 use ppp_packet::Proto;
+use ppp_text::Fields;
+use std::alloc::{AllocError, Global};
+use std::fmt;
 
-/// One of the two ends.
-#[derive(Clone, Copy, Debug, PartialEq, Eq)]
-pub enum End {
-    A,
-    B,
+/// The last place of a queue at which a frame can be lost.
+pub const MOST_PLACE: u16 = 1024;
+
+/// The most steps of one Settle.
+pub const MOST_SETTLED: u16 = 1000;
+
+/// An event of a replay. It prints as its line.
+#[derive(Clone, Debug, PartialEq, Eq, Drop)]
+pub enum Event {
+    /// `up E L`: the line below the link comes up at that end.
+    Up(End, u8),
+    /// `down E L`: the line below the link goes down at that end.
+    Down(End, u8),
+    /// `open E L P`: the administrator of that end opens a protocol on the link.
+    AdminOpen(End, u8, Proto),
+    /// `close E L P`: the administrator of that end closes a protocol on the link.
+    AdminClose(End, u8, Proto),
+    /// `timeout E L P`: the restart timer of a protocol on the link fires at that end.
+    Timeout(End, u8, Proto),
+    /// `deliver E L`: that end takes the front frame of its incoming queue of the link.
+    Deliver(End, u8),
+    /// `lose E L K`: the frame of place K from the front, 1 to 1,024, of that end's incoming queue is lost.
+    Lose(End, u8, u16),
+    /// `settle N`: so many steps, 1 to 1,000, each of which delivers the front frame of the first queue that isn't empty.
+    Settle(u16),
+    /// `show`: the states are reported.
+    Show,
 }
 
-/// A line of a script.
-#[derive(Clone, Copy, Debug, PartialEq, Eq)]
-pub enum Event {
-    /// The line below the link comes up at that end.
-    Up(End, u8),
-    /// The line below the link goes down at that end.
-    Down(End, u8),
-    /// The administrator of that end opens a protocol on the link.
-    AdminOpen(End, u8, Proto),
-    /// The administrator of that end closes a protocol on the link.
-    AdminClose(End, u8, Proto),
-    /// The restart timer of a protocol on the link fires at that end.
-    Timeout(End, u8, Proto),
-    /// That end takes the front frame of its incoming queue of the link.
-    Deliver(End, u8),
-    /// The frame of that place from the front, from 1 to 1,024, of that end's incoming queue is lost.
-    Lose(End, u8, u16),
-    /// That many steps, 1 to 1,000, each of which delivers the front frame of the first queue that isn't empty.
-    Settle(u16),
-    /// The states are reported.
-    Show,
+impl fmt::Display for Event {
+    ghost output = { λ event. Some (event_text event) };
+
+    fn fmt<W: fmt::Write>(&self, f: &mut fmt::Formatter<W>) -> fmt::Result {
+        match self {
+            Event::Up(end, link) => write!(f, "up {end} {link}"),
+            Event::Down(end, link) => write!(f, "down {end} {link}"),
+            Event::AdminOpen(end, link, protocol) => write!(f, "open {end} {link} {protocol}"),
+            Event::AdminClose(end, link, protocol) => write!(f, "close {end} {link} {protocol}"),
+            Event::Timeout(end, link, protocol) => write!(f, "timeout {end} {link} {protocol}"),
+            Event::Deliver(end, link) => write!(f, "deliver {end} {link}"),
+            Event::Lose(end, link, place) => write!(f, "lose {end} {link} {place}"),
+            Event::Settle(count) => write!(f, "settle {count}"),
+            Event::Show => write!(f, "show"),
+        }
+    }
+}
+
+impl Line for Event {
+    ghost form = { event_form };
+
+    ghost IsWithin = { IsWithin };
+
+    fn read(_alloc: Global, line: &[u8], links: u8) -> Result<Result<Event, LineWhy>, AllocError> {
+        Ok(read_event(line, links))
+    }
+
+    fn steps(&self) -> u32 {
+        steps_of(self)
+    }
 }
 
 /// How many steps an event is: one, but for those of a Settle.
 pub fn steps_of(event: &Event) -> u32
-    ensures { result ≡ steps_in event.now }
+    ensures value { result ≡ steps_in event.now }
+    ensures few { result ≤ 65535 }
 {
     match event {
         Event::Settle(count) => u32::from(*count),
         _ => 1,
     }
+}
+
+/// Reads `E L`, and answers the fields behind it too.
+#[tactic(auto, unfolding(crate::specs::Event::place_in))]
+fn place<'a>(fields: &Fields<'a>, links: u8) -> Result<(End, u8, Fields<'a>), LineWhy>
+    ensures value { result ≡ place_in links fields.now }
+    ensures within { IfOk result (λ x. IsLink links x.1) }
+{
+    let (first, fields) = next_field(fields)?;
+    let end = end(first)?;
+    let (second, fields) = next_field(&fields)?;
+    let link = link(second, links)?;
+    Ok((end, link, fields))
+}
+
+/// Reads `E L`.
+#[tactic(auto, unfolding(crate::specs::Event::placed))]
+fn read_link(fields: &Fields<'_>, links: u8) -> Result<(End, u8), LineWhy>
+    ensures value { Gives (λ x. (x.0, x.1, tt)) result (placed links no_more fields.now) }
+    ensures within { IfOk result (λ x. IsLink links x.1) }
+{
+    let (end, link, fields) = place(fields, links)?;
+    no_more(&fields)?;
+    Ok((end, link))
+}
+
+/// Reads `E L P`.
+#[tactic(auto, unfolding(crate::specs::Event::placed))]
+fn read_protocol(fields: &Fields<'_>, links: u8) -> Result<(End, u8, Proto), LineWhy>
+    ensures value { result ≡ placed links last_protocol fields.now }
+    ensures within { IfOk result (λ x. IsLink links x.1 × IsNamed x.2) }
+{
+    let (end, link, fields) = place(fields, links)?;
+    let protocol = last_protocol(&fields)?;
+    Ok((end, link, protocol))
+}
+
+/// Reads `E L K`.
+#[tactic(auto, unfolding(crate::specs::Event::placed))]
+fn read_lose(fields: &Fields<'_>, links: u8) -> Result<(End, u8, u16), LineWhy>
+    ensures value { result ≡ placed links (last_number 1 MOST_PLACE) fields.now }
+    ensures within { IfOk result (λ x. IsLink links x.1 × ((1 ≤ x.2) × (x.2 ≤ MOST_PLACE))) }
+{
+    let (end, link, fields) = place(fields, links)?;
+    let place = last_number(&fields, 1, MOST_PLACE)?;
+    Ok((end, link, place))
+}
+
+/// Reads `P`, and no more.
+#[tactic(auto, unfolding(crate::specs::Event::last_protocol))]
+fn last_protocol(fields: &Fields<'_>) -> Result<Proto, LineWhy>
+    ensures value { result ≡ last_protocol fields.now }
+    ensures named { IfOk result IsNamed }
+{
+    let (first, fields) = next_field(fields)?;
+    let protocol = protocol(first)?;
+    no_more(&fields)?;
+    Ok(protocol)
+}
+
+/// Reads a number within these bounds, and no more.
+#[tactic(auto, unfolding(crate::specs::Event::last_number))]
+fn last_number(fields: &Fields<'_>, least: u16, most: u16) -> Result<u16, LineWhy>
+    ensures value { result ≡ last_number least most fields.now }
+    ensures within { IfOk result (λ n. (least ≤ n) × (n ≤ most)) }
+{
+    let (first, fields) = next_field(fields)?;
+    let number = number_field(first, least, most)?;
+    no_more(&fields)?;
+    Ok(number)
+}
+
+/// The event of a line with this first field, and these behind it.
+#[tactic(auto, unfolding(crate::specs::Event::event_in))]
+fn read_fields(word: &[u8], fields: &Fields<'_>, links: u8) -> Result<Event, LineWhy>
+    ensures value { result ≡ event_in links word.now fields.now }
+    ensures within { IfOk result (IsWithin links) }
+{
+    if word == b"up".as_slice() {
+        let (end, link) = read_link(fields, links)?;
+        Ok(Event::Up(end, link))
+    } else if word == b"down".as_slice() {
+        let (end, link) = read_link(fields, links)?;
+        Ok(Event::Down(end, link))
+    } else if word == b"open".as_slice() {
+        let (end, link, protocol) = read_protocol(fields, links)?;
+        Ok(Event::AdminOpen(end, link, protocol))
+    } else if word == b"close".as_slice() {
+        let (end, link, protocol) = read_protocol(fields, links)?;
+        Ok(Event::AdminClose(end, link, protocol))
+    } else if word == b"timeout".as_slice() {
+        let (end, link, protocol) = read_protocol(fields, links)?;
+        Ok(Event::Timeout(end, link, protocol))
+    } else if word == b"deliver".as_slice() {
+        let (end, link) = read_link(fields, links)?;
+        Ok(Event::Deliver(end, link))
+    } else if word == b"lose".as_slice() {
+        let (end, link, place) = read_lose(fields, links)?;
+        Ok(Event::Lose(end, link, place))
+    } else if word == b"settle".as_slice() {
+        Ok(Event::Settle(last_number(fields, 1, MOST_SETTLED)?))
+    } else if word == b"show".as_slice() {
+        no_more(fields)?;
+        Ok(Event::Show)
+    } else {
+        Err(LineWhy::Event)
+    }
+}
+
+/// The event of a line.
+#[tactic(auto, unfolding(crate::specs::Event::event_of))]
+fn read_event(line: &[u8], links: u8) -> Result<Event, LineWhy>
+    ensures value { result ≡ event_of links line.now }
+    ensures within { IfOk result (IsWithin links) }
+{
+    let (word, fields) = next_field(&Fields::of(line))?;
+    read_fields(word, &fields, links)
 }

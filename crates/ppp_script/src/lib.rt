@@ -1,18 +1,29 @@
-//! The parts of an input, and the event lines of a script.
+//! Scripts: event lines, and their lists with the steps counted.
+//!
+//! A script is read by [`read_script`], by the rules that all scripts share: lines end with LF or CR LF, empty lines and
+//! those that begin with `#` are no step, and the steps of all lines are at most 100,000. What a line is stands in its
+//! type ([`Line`]): [`Event`] is that of a replay. A caller goes over a [`Script`] by [`Script::count`] and
+//! [`Script::at`], and prints a refusal by its [`LineWhy`]. What is parted from a script before, as settings, is left to
+//! `ppp_text`.
 #![tactic(auto)]
 
+mod end;
 mod event;
-mod fault;
-mod fields;
-mod lines;
-mod reading;
+mod field;
+mod law;
+mod line;
+mod line_why;
 mod script;
+mod script_fault;
 
-pub use event::{End, Event, steps_of};
-pub use fault::{LineWhy, ScriptFault};
-pub use lines::{Parts, part_input};
-pub use reading::read_script;
-pub use script::Script;
+pub use end::End;
+pub use event::{Event, MOST_PLACE, MOST_SETTLED, steps_of};
+pub use field::MOST_LINKS;
+pub use law::read_again;
+pub use line::Line;
+pub use line_why::LineWhy;
+pub use script::{MOST_STEPS, Script, read_script};
+pub use script_fault::ScriptFault;
 
 #[cfg(test)]
 mod tests;

@@ -1,6 +1,6 @@
-//! Scripts and inputs, each with what they are to give.
+//! Scripts and lines, each with what they are to give.
 
-use crate::{End, Event, LineWhy, ScriptFault, part_input, read_script, steps_of};
+use crate::{End, Event, LineWhy, Script, ScriptFault, read_script, steps_of};
 use ppp_packet::Proto;
 use std::alloc::Global;
 use std::process::Abort;
@@ -9,8 +9,7 @@ use std::test::Fail;
 /// Where and why a script is refused, if it is.
 fn refusal(alloc: Global, rt: &impl Abort, script: &[u8], links: u8) -> Option<(u32, LineWhy)> {
     assert!(rt; script.len() < 100_000);
-    assert!(rt; 1 <= links && links <= 16);
-    match read_script(alloc, script, links) {
+    match read_script::<Event>(alloc, script, links) {
         Ok(_) => None,
         Err(ScriptFault::Refused { line, why }) => Some((line, why)),
         Err(ScriptFault::Memory) => Some((0, LineWhy::Steps)),
@@ -39,7 +38,9 @@ fn refuses_the_first_line_out_of_form(rt: HostRuntime) {
         ("settle +1", 1, Some((1, event))),
         ("open c 2 lcp", 1, Some((1, event))),
         ("up a 255", 16, Some((1, link))),
-        ("up a 256", 16, Some((1, event))),
+        ("up a 255", 255, None),
+        ("up a 256", 255, Some((1, event))),
+        ("settle 5\nup a 1", 0, Some((2, link))),
         ("up a 0", 1, Some((1, event))),
         ("up a", 1, Some((1, event))),
         ("up  a 1", 1, Some((1, event))),
@@ -82,46 +83,42 @@ fn counts_the_steps(rt: HostRuntime) -> Result<(), Fail> {
 }
 
 #[test]
-fn reads_each_form(rt: HostRuntime) -> Result<(), ScriptFault> {
-    let text =
-        b"up a 1\nopen a 1 lcp\nup b 1\nopen b 1 lcp\ndeliver b 1\ntimeout a 1 lcp\nlose b 1 3\n\
-        # the end\nclose a 1 lcp\nsettle 20\ndown b 16\nshow";
-    let wanted = [
-        Event::Up(End::A, 1),
-        Event::AdminOpen(End::A, 1, Proto::Lcp),
-        Event::Up(End::B, 1),
-        Event::AdminOpen(End::B, 1, Proto::Lcp),
-        Event::Deliver(End::B, 1),
-        Event::Timeout(End::A, 1, Proto::Lcp),
-        Event::Lose(End::B, 1, 3),
-        Event::AdminClose(End::A, 1, Proto::Lcp),
-        Event::Settle(20),
-        Event::Down(End::B, 16),
-        Event::Show,
+fn reads_and_writes_each_form(rt: HostRuntime) -> Result<(), Fail> {
+    let rows = [
+        ("up a 1", Event::Up(End::A, 1)),
+        ("open a 1 lcp", Event::AdminOpen(End::A, 1, Proto::Lcp)),
+        ("deliver b 1", Event::Deliver(End::B, 1)),
+        ("timeout a 1 lcp", Event::Timeout(End::A, 1, Proto::Lcp)),
+        ("lose b 1 1024", Event::Lose(End::B, 1, 1024)),
+        ("close a 10 lcp", Event::AdminClose(End::A, 10, Proto::Lcp)),
+        ("settle 20", Event::Settle(20)),
+        ("down b 255", Event::Down(End::B, 255)),
+        ("show", Event::Show),
     ];
-    let script = read_script(rt.alloc(), text, 16)?;
-    assert_eq!(rt; script.count(), 11);
-    for (i, event) in wanted.iter().enumerate() {
-        assert!(rt; i < script.count());
-        assert_eq!(rt; *script.at(i), *event);
+    for (line, event) in rows.iter() {
+        assert_eq!(rt; event.to_string(rt.alloc())?.as_str(), *line);
+        assert!(rt; line.len() < 100);
+        match read_script::<Event>(rt.alloc(), line.as_bytes(), 255) {
+            Ok(script) => {
+                assert!(rt; script.count() == 1, "one line");
+                assert!(rt; script.at(0) == event, "at {line}");
+            }
+            Err(fault) => assert!(rt; false, "{fault}"),
+        }
     }
+    assert_eq!(rt; LineWhy::Link.to_string(rt.alloc())?.as_str(), "Link");
+    assert_eq!(rt; End::B.to_string(rt.alloc())?.as_str(), "b");
     Ok(())
 }
 
 #[test]
-fn parts_at_the_first_line_of_three_dashes(rt: HostRuntime) {
-    let rows = [
-        ("version = 1\n---\nshow\n", "version = 1\n", "show\n"),
-        ("a\r\n---\r\nb\n---\nc", "a\r\n", "b\n---\nc"),
-        ("---", "", ""),
-        ("a\n---", "a\n", ""),
-        ("a\n---\r", "a\n---\r", ""),
-        ("a---\n ---\n----\n", "a---\n ---\n----\n", ""),
-        ("", "", ""),
-    ];
-    for (text, settings, script) in rows {
-        let parts = part_input(text.as_bytes());
-        assert_eq!(rt; parts.settings, settings.as_bytes(), "at {text:?}");
-        assert_eq!(rt; parts.script, script.as_bytes(), "at {text:?}");
-    }
+fn keeps_the_order_of_lines(rt: HostRuntime) -> Result<(), ScriptFault> {
+    let text = b"up a 1\n# the end\n\nsettle 3\r\nshow";
+    let script: Script<Event> = read_script(rt.alloc(), text, 1)?;
+    assert!(rt; script.count() == 3, "three lines that are steps");
+    assert!(rt; *script.at(0) == Event::Up(End::A, 1), "the first");
+    assert!(rt; *script.at(1) == Event::Settle(3), "the second");
+    assert!(rt; *script.at(2) == Event::Show, "the last");
+    crate::read_again();
+    Ok(())
 }

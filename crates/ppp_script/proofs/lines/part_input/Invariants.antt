@@ -1,9 +1,0 @@
-use Rattle.std.proofs.Common.{List, ℕ, length}
-use Rattle.ppp_script.proofs.LineLemmas.{Passed}
-use Rattle.ppp_script.proofs.lines.part_input.Given as goal
-
-abbrev pub invariant-lines : goal.invariant-lines
-invariant-lines l = (front : List ℕ) × Passed l.text front l.rest
-
-abbrev pub decreases-lines : goal.decreases-lines
-decreases-lines l = length l.rest
