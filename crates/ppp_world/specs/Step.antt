@@ -2,14 +2,15 @@
 -- LCP, so its state is the duet of that, and each step is one of the duet's events, after which the frames that found
 -- a queue full are lost.
 use Rattle.std.specs.Prelude.{ℕ, ◌+◌, ◌*◌, ◌==◌, if◌then◌else◌, List, [], ◌∷◌, take, Option, Some, None}
-use Rattle.ppp_auto.specs.Automaton.{Entry, command, take_in, entries_of}
+use Rattle.ppp_auto.specs.Outbox.{Entry}
+use Rattle.ppp_auto.specs.Automaton.{command, take_in, entries_of}
 use Rattle.ppp_auto.specs.declared.auto_event.AutoEvent.TheVariants as event
 use Rattle.ppp_duet.specs.Duet.{Duet, End as End', Setup, Side, Marked, Commands, Delivers, Loses, happens}
 use Rattle.ppp_duet.specs.Duet as duet
 use Rattle.ppp_packet.specs.declared.proto.Proto.{Proto}
 use Rattle.ppp_packet.specs.declared.proto.Proto.TheVariants.{Lcp}
-use Rattle.ppp_script.specs.declared.event.End.{End}
-use Rattle.ppp_script.specs.declared.event.End.TheVariants.{A, B}
+use Rattle.ppp_script.specs.declared.end.End.{End}
+use Rattle.ppp_script.specs.declared.end.End.TheVariants.{A, B}
 use Rattle.ppp_script.specs.declared.event.Event.{Event}
 use Rattle.ppp_script.specs.declared.event.Event.TheVariants.{Up, Down, AdminOpen, AdminClose, Timeout, Deliver, Lose, Settle, Show}
 use Rattle.ppp_world.specs.Settings.{Settings, setup_of}

@@ -5,14 +5,16 @@ ghost use Rattle.std.specs.Prelude.{◌≡◌, ◌+◌, ◌≤◌, true, [], ◌
 ghost use Rattle.ppp_packet.specs.Options.{written, option_with, find_kind};
 ghost use Rattle.ppp_packet.specs.Packet.{two_octets};
 ghost use Rattle.ppp_packet.specs.OptRef.{option_seen};
-ghost use Rattle.ppp_auto.specs.Automaton.{four_octets};
+ghost use Rattle.ppp_packet.specs.Proto.{proto_number};
+ghost use Rattle.ppp_packet.specs.declared.proto.Proto.TheVariants.{Lcp};
+ghost use Rattle.ppp_auto.specs.Taken.{four_octets};
 ghost use Rattle.ppp_auto.specs.Reply.{has_kind};
 ghost use Rattle.ppp_world.specs.Lcp as spec;
 ghost use Rattle.ppp_world.specs.LcpLawful.{lcp_lawful};
 
 use byteorder::{BigEndian, ByteOrder};
 use ppp_auto::{OptionTable, Verdict};
-use ppp_packet::{Opt, OptList, OptRef, Options};
+use ppp_packet::{Opt, OptList, OptRef, Options, Proto};
 
 /// The Type of a Maximum-Receive-Unit (RFC 1661, section 6.1).
 pub(crate) const MRU: u8 = 1;
@@ -59,7 +61,9 @@ impl LcpTable {
 }
 
 impl OptionTable for LcpTable {
-    const PROTOCOL: u16 = 0xc021;
+    const PROTOCOL: u16 = Proto::Lcp.number();
+
+    ghost PROTOCOL = { proto_number Lcp };
 
     const EXTENDED: bool = true;
 
