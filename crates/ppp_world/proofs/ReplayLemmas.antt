@@ -2,8 +2,8 @@
 use Rattle.std.proofs.Common.{◌≡◌, ℕ, ◌+◌, ◌≤◌, List, [], ◌∷◌, refl, sym, ◌∙◌, ap, arith}
 use Rattle.std.specs.Prelude.{Option, Some, None, Result, Ok, Err, IfOk, IsSome}
 use Rattle.std.proofs.lemmas.List.Sums.{sum_by-cons}
-use Rattle.ppp_script.specs.Events.{steps_in, steps_in_all}
-use Rattle.ppp_script.specs.declared.event.End.{End}
+use Rattle.ppp_script.specs.Event.{steps_in, steps_in_all}
+use Rattle.ppp_script.specs.declared.end.End.{End}
 use Rattle.ppp_script.specs.declared.event.Event.{Event}
 use Rattle.ppp_world.specs.Refusal.{refusal_in}
 use Rattle.ppp_world.specs.Run.{run_from, run_of, place_begun, report, refusal, before_refusal}

@@ -8,7 +8,7 @@ use Rattle.ppp_duet.specs.Span.{Narrow}
 use Rattle.ppp_duet.specs.Terms.{Terms, AreLawful}
 use Rattle.ppp_duet.proofs.ReachedLemmas.{reached_start, agreement_at}
 use Rattle.ppp_duet.proofs.SpanLemmas.{narrow_start}
-use Rattle.ppp_script.specs.Events.{steps_in}
+use Rattle.ppp_script.specs.Event.{steps_in}
 use Rattle.ppp_script.specs.declared.event.Event.{Event}
 use Rattle.ppp_script.specs.declared.event.Event.TheVariants.{Up, Down, AdminOpen, AdminClose, Timeout, Deliver, Lose, Settle, Show}
 use Rattle.ppp_world.specs.Agreement.{AgreesIfOpened, AgreesEverywhere}

@@ -14,8 +14,8 @@ use Rattle.ppp_duet.specs.Span.{Narrow, span_of, widest}
 use Rattle.ppp_duet.proofs.NarrowRunLemmas.{run_append}
 use Rattle.ppp_duet.proofs.ReachedLemmas.{reached_on}
 use Rattle.ppp_duet.proofs.SpanLemmas.{narrow_still}
-use Rattle.ppp_script.specs.declared.event.End.{End}
-use Rattle.ppp_script.specs.declared.event.End.TheVariants as end
+use Rattle.ppp_script.specs.declared.end.End.{End}
+use Rattle.ppp_script.specs.declared.end.End.TheVariants as end
 use Rattle.ppp_world.specs.Outstanding.{outstanding_of, or_else, outstanding_in}
 use Rattle.ppp_world.specs.Settings.{Settings, setup_of}
 use Rattle.ppp_world.specs.Step.{event_of, happening_seen, moved, within_room, word_of}

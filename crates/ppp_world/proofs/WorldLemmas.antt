@@ -6,7 +6,7 @@ use Rattle.std.proofs.lemmas.List.{append-nil}
 use Rattle.ppp_duet.specs.Duet.{Duet}
 use Rattle.ppp_duet.specs.Reached.{OldestFirst, Reached}
 use Rattle.ppp_duet.proofs.ReachedLemmas.{oldest_at}
-use Rattle.ppp_script.specs.Events.{steps_in}
+use Rattle.ppp_script.specs.Event.{steps_in}
 use Rattle.ppp_script.specs.declared.event.Event.{Event}
 use Rattle.ppp_world.specs.Outstanding.{outstanding_in}
 use Rattle.ppp_world.specs.Run.{Moment, Place, moment_at, after_moment, deliveries, moments_of, place_after, run_from, shown, shown_at, report, refusal, refusal_with, before_refusal, kept_with}

@@ -5,8 +5,8 @@ use Rattle.ppp_packet.specs.Proto.{proto_number}
 use Rattle.ppp_packet.specs.declared.proto.Proto.TheVariants.{Lcp}
 use Rattle.ppp_duet.specs.Duet.{Duet, Marked}
 use Rattle.ppp_duet.specs.Span.{span_of, least, requests, answers, widest}
-use Rattle.ppp_script.specs.declared.event.End.{End}
-use Rattle.ppp_script.specs.declared.event.End.TheVariants.{A, B}
+use Rattle.ppp_script.specs.declared.end.End.{End}
+use Rattle.ppp_script.specs.declared.end.End.TheVariants.{A, B}
 use Rattle.ppp_world.specs.declared.outstanding.Outstanding.{Outstanding}
 use Rattle.ppp_world.specs.declared.step.TheConstants.{ONLY_LINK}
 

@@ -8,8 +8,8 @@ use Rattle.ppp_duet.specs.Duet.{Duet, End as End', Setup, Side, Marked, Commands
 use Rattle.ppp_duet.specs.Duet as duet
 use Rattle.ppp_packet.specs.declared.proto.Proto.{Proto}
 use Rattle.ppp_packet.specs.declared.proto.Proto.TheVariants.{Lcp}
-use Rattle.ppp_script.specs.declared.event.End.{End}
-use Rattle.ppp_script.specs.declared.event.End.TheVariants.{A, B}
+use Rattle.ppp_script.specs.declared.end.End.{End}
+use Rattle.ppp_script.specs.declared.end.End.TheVariants.{A, B}
 use Rattle.ppp_script.specs.declared.event.Event.{Event}
 use Rattle.ppp_script.specs.declared.event.Event.TheVariants.{Up, Down, AdminOpen, AdminClose, Timeout, Deliver, Lose, Settle, Show}
 use Rattle.ppp_world.specs.Settings.{Settings, setup_of}

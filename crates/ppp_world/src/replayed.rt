@@ -10,7 +10,7 @@ use crate::refusal::Refusal;
 use crate::world::World;
 use crate::world_fault::WorldFault;
 use ppp_auto::Memory;
-use ppp_script::Script;
+use ppp_script::{Event, Script};
 use std::alloc::Global;
 
 /// What a replay comes to: the report of the steps that were done, and the first step that is refused, if there is one.
@@ -24,7 +24,7 @@ pub struct Replayed {
 
 /// Replays a script, up to the first step that is refused. In every state of its run two Opened ends agree, on each link
 /// and in each protocol.
-pub fn replay(alloc: Global, script: &Script) -> Result<Replayed, Memory>
+pub fn replay(alloc: Global, script: &Script<Event>) -> Result<Replayed, Memory>
     ensures report { IfOk result (λ replayed. replayed.report.items ≡ report (before_refusal (run_of default_settings script.now))) }
     ensures refused { IfOk result (λ replayed. replayed.refused ≡ refusal (run_of default_settings script.now)) }
     ensures whole { IfOk result (λ replayed. replayed.refused ≡ None → replayed.report.items ≡ report (run_of default_settings script.now)) }

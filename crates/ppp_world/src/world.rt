@@ -3,7 +3,7 @@
 ghost use Rattle.std.specs.Prelude.{◌≡◌, ◌≢◌, ◌↔◌, ◌+◌, ◌≤◌, ◌++◌, ◌^◌, ◌<◌, false, IsNone, IsSome, OnOk, IfOk, None, Some};
 ghost use Rattle.std.specs.String.{string_bytes};
 ghost use Rattle.ppp_duet.specs.Reached.{OldestFirst};
-ghost use Rattle.ppp_script.specs.Events.{steps_in};
+ghost use Rattle.ppp_script.specs.Event.{steps_in};
 ghost use Rattle.ppp_world.specs.Agreement.{agree_at, AreOpenedAt};
 ghost use Rattle.ppp_world.specs.Outstanding.{outstanding_in};
 ghost use Rattle.ppp_world.specs.Run.{deliveries, shown_at};
