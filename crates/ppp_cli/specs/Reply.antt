@@ -48,6 +48,10 @@ not_built_line = codes "not built\n"
 abbrev pub bad_line : ℕ → LineWhy → List ℕ
 bad_line line why = codes "line " ++ decimal line ++ codes " " ++ why_name why ++ codes "\n"
 
+abbrev pub reply_to_line : ℕ → LineWhy → Reply
+reply_to_line line why = says (BadLine line) (bad_line line why)
+
+-- the line of a step that is refused
 abbrev pub refusal_line : Refusal → List ℕ
 refusal_line refused = refusal_text refused ++ codes "\n"
 
@@ -58,8 +62,9 @@ reply_to_run run (Some refused) =
     says (Outstanding refused.step) (report (before_refusal run) ++ refusal_line refused)
 
 abbrev pub reply_to_events : Result (List Event) Refusal' → Reply
-reply_to_events (Ok events) = let run = run_of default_settings events in reply_to_run run (refusal run)
-reply_to_events (Err refused) = says (BadLine refused.line) (bad_line refused.line refused.why)
+reply_to_events (Ok events) =
+    let run = run_of default_settings events in reply_to_run run (refusal run)
+reply_to_events (Err refused) = reply_to_line refused.line refused.why
 
 -- the settings that are built: this one line, ended by LF or by the end of the input
 abbrev pub is_built : List ℕ → Bool
@@ -69,7 +74,8 @@ is_built settings = bytes_eq settings (codes "version = 1") || bytes_eq settings
 abbrev pub reply_to_text : List ℕ → Reply
 reply_to_text text =
     if nat_lt MOST_OCTETS (length text) then says TooLong too_long_line
-    else if is_built (settings_in text) then reply_to_events (events_of event_form LINKS (script_in text))
+    else if is_built (settings_in text)
+    then reply_to_events (events_of event_form LINKS (script_in text))
     else says NotBuilt not_built_line
 
 -- The reply to words and to the input's octets: None where a source that doesn't tell them decides it.

@@ -1,10 +1,10 @@
 //! What is replied to a text.
 
 ghost use Rattle.std.specs.Prelude.{◌≡◌, ◌≤◌, length, IfOk, Ok};
-ghost use Rattle.ppp_cli.specs.Reply.{bad_line, is_built, not_built_line, reply_seen, reply_to_events, reply_to_text, says};
+ghost use Rattle.ppp_cli.specs.Reply.{is_built, not_built_line, reply_seen, reply_to_events, reply_to_line, reply_to_text, says};
 ghost use Rattle.ppp_cli.specs.Status.{IsOfText};
 ghost use Rattle.ppp_cli.specs.declared.input.TheConstants.{MOST_OCTETS};
-ghost use Rattle.ppp_cli.specs.declared.status.Status.TheVariants.{BadLine, NotBuilt};
+ghost use Rattle.ppp_cli.specs.declared.status.Status.TheVariants.{NotBuilt};
 
 use crate::status::Status;
 use ppp_io::Memory;
@@ -60,7 +60,7 @@ fn refuse_settings(alloc: Global) -> Result<Reply, Memory>
 
 /// Refuses a line of the script.
 fn refuse_line(alloc: Global, line: u32, why: LineWhy) -> Result<Reply, Memory>
-    ensures reply { IfOk result (λ reply. reply_seen reply ≡ says (BadLine line) (bad_line line why)) }
+    ensures reply { IfOk result (λ reply. reply_seen reply ≡ reply_to_line line why) }
     ensures of_text { IfOk result (λ reply. IsOfText reply.status) }
 {
     let text = format!(in alloc; "line {line} {why}\n")?;
