@@ -3,9 +3,10 @@ use Rattle.std.specs.Prelude.{ℕ, List, Option, Some, None, Result, Ok, Err, �
 use Rattle.ppp_cli.specs.declared.command.Command.{Command}
 use Rattle.ppp_cli.specs.declared.command.Command.TheVariants.{Replay}
 use Rattle.ppp_cli.specs.declared.reply.TheConstants.{LINKS}
-use Rattle.ppp_script.specs.Lines.{script_in}
+use Rattle.ppp_script.specs.Event.{event_form}
 use Rattle.ppp_script.specs.Script.{Refusal, events_of}
 use Rattle.ppp_script.specs.declared.event.Event.{Event}
+use Rattle.ppp_text.specs.Parts.{script_in}
 use Rattle.ppp_world.specs.Run.{run_of, before_refusal, AgreesThroughout}
 use Rattle.ppp_world.specs.Settings.{default_settings}
 
@@ -18,4 +19,4 @@ AgreesIfRead (Err refused) = ⊤
 abbrev pub AgreesIfReplayed : Option Command → Option (List ℕ) → Type 0
 AgreesIfReplayed None told = ⊤
 AgreesIfReplayed (Some Replay) None = ⊤
-AgreesIfReplayed (Some Replay) (Some text) = AgreesIfRead (events_of LINKS (script_in text))
+AgreesIfReplayed (Some Replay) (Some text) = AgreesIfRead (events_of event_form LINKS (script_in text))

@@ -10,7 +10,8 @@ use Rattle.ppp_cli.specs.declared.status.Status.TheVariants.{ReadFault, WriteFau
 -- the reply, with its own line. A fault of writing, or want of memory, leaves a front of what was to be written.
 abbrev pub AnswersBy : (ReadFailed : Type 0) → Reply → Option (List ℕ) → Option (List ℕ) → Status → Type 0
 AnswersBy ReadFailed reply old new ReadFault = ReadFailed × PutsOn old new read_fault_line
-AnswersBy ReadFailed reply old new WriteFault = PutsFront old new reply.octets ⊎ (ReadFailed × PutsFront old new read_fault_line)
+AnswersBy ReadFailed reply old new WriteFault =
+    PutsFront old new reply.octets ⊎ (ReadFailed × PutsFront old new read_fault_line)
 AnswersBy ReadFailed reply old new Memory = PutsFront old new reply.octets
 AnswersBy ReadFailed reply old new status = (status ≡ reply.status) × PutsOn old new reply.octets
 

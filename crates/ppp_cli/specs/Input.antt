@@ -12,7 +12,8 @@ TakesTooMany old new = (taken : List ℕ) × TakesOff old new taken × (length t
 
 -- the text was read to its end and is short enough; or so many octets were taken that it is too long; or a read failed
 abbrev pub IsInput : Option (List ℕ) → Option (List ℕ) → ℕ → ℕ → Input → Type 0
-IsInput old new before now (Text text) = TakesOff old new text.items × IsDrained new × (length text.items ≤ MOST_OCTETS)
+IsInput old new before now (Text text) =
+    TakesOff old new text.items × IsDrained new × (length text.items ≤ MOST_OCTETS)
 IsInput old new before now TooLong = TakesTooMany old new
 IsInput old new before now Failed = Rose before now
 IsInput old new before now Memory = ⊤

@@ -7,7 +7,8 @@ use Rattle.ppp_cli.specs.declared.status.Status.TheVariants.{WriteFault}
 
 -- a front of these octets is written
 abbrev pub PutsFront : Option (List ℕ) → Option (List ℕ) → List ℕ → Type 0
-PutsFront old new octets = (front : List ℕ) × (rest : List ℕ) × (front ++ rest ≡ octets) × PutsOn old new front
+PutsFront old new octets =
+    (front : List ℕ) × (rest : List ℕ) × (front ++ rest ≡ octets) × PutsOn old new front
 
 -- all is written and the status answered; or a write failed and a front is written
 abbrev pub Finishes : Option (List ℕ) → Option (List ℕ) → ℕ → ℕ → Status → List ℕ → Status → Type 0

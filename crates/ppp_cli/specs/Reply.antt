@@ -9,11 +9,12 @@ use Rattle.ppp_cli.specs.declared.reply.Reply.{Reply as Reply'}
 use Rattle.ppp_cli.specs.declared.reply.TheConstants.{LINKS}
 use Rattle.ppp_cli.specs.declared.status.Status.{Status}
 use Rattle.ppp_cli.specs.declared.status.Status.TheVariants.{Ok as Fine, BadWords, TooLong, BadLine, Outstanding, NotBuilt}
-use Rattle.ppp_script.specs.Lines.{settings_in, script_in}
+use Rattle.ppp_script.specs.Event.{event_form}
+use Rattle.ppp_script.specs.LineWhy.{why_name}
 use Rattle.ppp_script.specs.Script.{Refusal as Refusal', events_of}
 use Rattle.ppp_script.specs.declared.event.Event.{Event}
-use Rattle.ppp_script.specs.declared.fault.LineWhy.{LineWhy}
-use Rattle.ppp_script.specs.declared.fault.LineWhy.TheVariants.{Event as NoEvent, Link, Steps}
+use Rattle.ppp_script.specs.declared.line_why.LineWhy.{LineWhy}
+use Rattle.ppp_text.specs.Parts.{settings_in, script_in}
 use Rattle.ppp_world.specs.Refusal.{refusal_text}
 use Rattle.ppp_world.specs.Run.{Moment, run_of, report, refusal, before_refusal}
 use Rattle.ppp_world.specs.Settings.{default_settings}
@@ -43,15 +44,14 @@ too_long_line = codes "too long\n"
 abbrev pub not_built_line : List ℕ
 not_built_line = codes "not built\n"
 
-abbrev pub why_name : LineWhy → List ℕ
-why_name NoEvent = codes "Event"
-why_name Link = codes "Link"
-why_name Steps = codes "Steps"
-
 -- `line K WHY`
 abbrev pub bad_line : ℕ → LineWhy → List ℕ
 bad_line line why = codes "line " ++ decimal line ++ codes " " ++ why_name why ++ codes "\n"
 
+abbrev pub reply_to_line : ℕ → LineWhy → Reply
+reply_to_line line why = says (BadLine line) (bad_line line why)
+
+-- the line of a step that is refused
 abbrev pub refusal_line : Refusal → List ℕ
 refusal_line refused = refusal_text refused ++ codes "\n"
 
@@ -62,8 +62,9 @@ reply_to_run run (Some refused) =
     says (Outstanding refused.step) (report (before_refusal run) ++ refusal_line refused)
 
 abbrev pub reply_to_events : Result (List Event) Refusal' → Reply
-reply_to_events (Ok events) = let run = run_of default_settings events in reply_to_run run (refusal run)
-reply_to_events (Err refused) = says (BadLine refused.line) (bad_line refused.line refused.why)
+reply_to_events (Ok events) =
+    let run = run_of default_settings events in reply_to_run run (refusal run)
+reply_to_events (Err refused) = reply_to_line refused.line refused.why
 
 -- the settings that are built: this one line, ended by LF or by the end of the input
 abbrev pub is_built : List ℕ → Bool
@@ -73,7 +74,8 @@ is_built settings = bytes_eq settings (codes "version = 1") || bytes_eq settings
 abbrev pub reply_to_text : List ℕ → Reply
 reply_to_text text =
     if nat_lt MOST_OCTETS (length text) then says TooLong too_long_line
-    else if is_built (settings_in text) then reply_to_events (events_of LINKS (script_in text))
+    else if is_built (settings_in text)
+    then reply_to_events (events_of event_form LINKS (script_in text))
     else says NotBuilt not_built_line
 
 -- The reply to words and to the input's octets: None where a source that doesn't tell them decides it.

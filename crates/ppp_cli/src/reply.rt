@@ -1,14 +1,15 @@
 //! What is replied to a text.
 
 ghost use Rattle.std.specs.Prelude.{◌≡◌, ◌≤◌, length, IfOk, Ok};
-ghost use Rattle.ppp_cli.specs.Reply.{bad_line, is_built, not_built_line, reply_seen, reply_to_events, reply_to_text, says, why_name};
+ghost use Rattle.ppp_cli.specs.Reply.{is_built, not_built_line, reply_seen, reply_to_events, reply_to_line, reply_to_text, says};
 ghost use Rattle.ppp_cli.specs.Status.{IsOfText};
 ghost use Rattle.ppp_cli.specs.declared.input.TheConstants.{MOST_OCTETS};
-ghost use Rattle.ppp_cli.specs.declared.status.Status.TheVariants.{BadLine, NotBuilt};
+ghost use Rattle.ppp_cli.specs.declared.status.Status.TheVariants.{NotBuilt};
 
 use crate::status::Status;
 use ppp_io::Memory;
-use ppp_script::{LineWhy, Script, ScriptFault, part_input, read_script};
+use ppp_script::{Event, LineWhy, Script, ScriptFault, read_script};
+use ppp_text::part_input;
 use ppp_world::{Replayed, replay};
 use std::alloc::Global;
 
@@ -59,10 +60,9 @@ fn refuse_settings(alloc: Global) -> Result<Reply, Memory>
 
 /// Refuses a line of the script.
 fn refuse_line(alloc: Global, line: u32, why: LineWhy) -> Result<Reply, Memory>
-    ensures reply { IfOk result (λ reply. reply_seen reply ≡ says (BadLine line) (bad_line line why)) }
+    ensures reply { IfOk result (λ reply. reply_seen reply ≡ reply_to_line line why) }
     ensures of_text { IfOk result (λ reply. IsOfText reply.status) }
 {
-    let why = why_name(why);
     let text = format!(in alloc; "line {line} {why}\n")?;
     Ok(Reply {
         status: Status::BadLine(line),
@@ -70,20 +70,9 @@ fn refuse_line(alloc: Global, line: u32, why: LineWhy) -> Result<Reply, Memory>
     })
 }
 
-/// The word for a cause.
-fn why_name(why: LineWhy) -> &'static str
-    ensures { result.now ≡ why_name why }
-{
-    match why {
-        LineWhy::Event => "Event",
-        LineWhy::Link => "Link",
-        LineWhy::Steps => "Steps",
-    }
-}
-
 /// Replays a script, and replies with its report; where a step is refused the report is that of the steps before it, and
 /// the line of the refusal follows.
-fn reply_to_script(alloc: Global, script: &Script) -> Result<Reply, Memory>
+fn reply_to_script(alloc: Global, script: &Script<Event>) -> Result<Reply, Memory>
     ensures reply { IfOk result (λ reply. reply_seen reply ≡ reply_to_events (Ok script.now)) }
     ensures of_text { IfOk result (λ reply. IsOfText reply.status) }
 {

@@ -85,7 +85,8 @@ impl Sink for MemSink {
         ensures calls { self.new.calls ≡ one_more self.old.calls }
         ensures fails { (result ≡ Wrote.Failed)
             ↔ (Contains self.old.failing self.new.calls ⊎ (self.old.room ≤ length self.old.held)) }
-        ensures fits { WriteFits result (min (length piece.now) (self.old.room - length self.old.held)) }
+        ensures fits { WriteFits result
+            (min (length piece.now) (self.old.room - length self.old.held)) }
         ensures faults { self.new.faults ≡ faults_after_write result self.old.faults }
         ensures room { self.new.room ≡ self.old.room }
         ensures failing { self.new.failing ≡ self.old.failing }
