@@ -14,7 +14,7 @@ ghost use Rattle.ppp_world.specs.LcpLawful.{lcp_lawful};
 
 use byteorder::{BigEndian, ByteOrder};
 use ppp_auto::{OptionTable, Verdict};
-use ppp_packet::{Opt, OptList, OptRef, Options, Proto};
+use ppp_packet::{Opt, OptList, OptRef, Options};
 
 /// The Type of a Maximum-Receive-Unit (RFC 1661, section 6.1).
 pub(crate) const MRU: u8 = 1;
@@ -61,7 +61,7 @@ impl LcpTable {
 }
 
 impl OptionTable for LcpTable {
-    const PROTOCOL: u16 = Proto::Lcp.number();
+    const PROTOCOL: u16 = 0xc021;
 
     ghost PROTOCOL = { proto_number Lcp };
 

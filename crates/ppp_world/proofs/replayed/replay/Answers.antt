@@ -7,29 +7,29 @@ use Rattle.ppp_world.proofs.replayed.replay.Goals as goal
 
 pub step-requires : goal.step-requires
 step-requires c =
-    let front : drop c.loop-i.i c.args.script.now ≡ c.at.result.now ∷ drop (suc c.loop-i.i) c.args.script.now = drop-get c.args.script.now c.loop-i.i c.at.result.now c.at.ensures.event in
+    let front : drop c.loop-i.i c.args.script.now ≡ c.at.result.now ∷ drop (suc c.loop-i.i) c.args.script.now = drop-get c.args.script.now c.loop-i.i c.at.result.now c.at.ensures.line in
     replays_room default_settings c.args.script.now c.loop-i.world (drop c.loop-i.i c.args.script.now) (drop (suc c.loop-i.i) c.args.script.now) c.at.result.now front c.loop-i.invariant
 
 pub stopped-requires : goal.stopped-requires
 stopped-requires c =
-    let front : drop c.loop-i.i c.args.script.now ≡ c.at.result.now ∷ drop (suc c.loop-i.i) c.args.script.now = drop-get c.args.script.now c.loop-i.i c.at.result.now c.at.ensures.event in
+    let front : drop c.loop-i.i c.args.script.now ≡ c.at.result.now ∷ drop (suc c.loop-i.i) c.args.script.now = drop-get c.args.script.now c.loop-i.i c.at.result.now c.at.ensures.line in
     let room = replays_room default_settings c.args.script.now c.loop-i.world (drop c.loop-i.i c.args.script.now) (drop (suc c.loop-i.i) c.args.script.now) c.at.result.now front c.loop-i.invariant in
     omega (arith, room, c.step.ensures.steps)
 
 pub loop-i-preserved : goal.loop-i-preserved
 loop-i-preserved c =
-    let front : drop c.loop-i.i c.args.script.now ≡ c.at.result.now ∷ drop (suc c.loop-i.i) c.args.script.now = drop-get c.args.script.now c.loop-i.i c.at.result.now c.at.ensures.event in
+    let front : drop c.loop-i.i c.args.script.now ≡ c.at.result.now ∷ drop (suc c.loop-i.i) c.args.script.now = drop-get c.args.script.now c.loop-i.i c.at.result.now c.at.ensures.line in
     rw add-one (replays_next default_settings c.args.script.now c.loop-i.world c.step.new.self (drop c.loop-i.i c.args.script.now) (drop (suc c.loop-i.i) c.args.script.now) c.at.result.now c.step.result front c.step.ensures.answer c.in-Ok.is c.step.ensures.done c.step.ensures.steps c.loop-i.invariant)
 
 pub returns-in-Err-clause-report : goal.returns-in-Err-clause-report
 returns-in-Err-clause-report c =
-    let front : drop c.loop-i.i c.args.script.now ≡ c.at.result.now ∷ drop (suc c.loop-i.i) c.args.script.now = drop-get c.args.script.now c.loop-i.i c.at.result.now c.at.ensures.event in
+    let front : drop c.loop-i.i c.args.script.now ≡ c.at.result.now ∷ drop (suc c.loop-i.i) c.args.script.now = drop-get c.args.script.now c.loop-i.i c.at.result.now c.at.ensures.line in
     if_ok_all c.stopped.result c.stopped.ensures.report c.stopped.ensures.refused c.stopped.ensures.some
     (λ replayed told refused some. told ∙ (replays_stopped default_settings c.args.script.now c.loop-i.world c.step.new.self (drop c.loop-i.i c.args.script.now) (drop (suc c.loop-i.i) c.args.script.now) c.at.result.now c.step.result c.in-Err.fault replayed.refused front c.step.ensures.answer c.in-Err.is c.step.ensures.done c.loop-i.invariant refused some).0)
 
 pub returns-in-Err-clause-refused : goal.returns-in-Err-clause-refused
 returns-in-Err-clause-refused c =
-    let front : drop c.loop-i.i c.args.script.now ≡ c.at.result.now ∷ drop (suc c.loop-i.i) c.args.script.now = drop-get c.args.script.now c.loop-i.i c.at.result.now c.at.ensures.event in
+    let front : drop c.loop-i.i c.args.script.now ≡ c.at.result.now ∷ drop (suc c.loop-i.i) c.args.script.now = drop-get c.args.script.now c.loop-i.i c.at.result.now c.at.ensures.line in
     if_ok_all c.stopped.result c.stopped.ensures.report c.stopped.ensures.refused c.stopped.ensures.some
     (λ replayed told refused some. (replays_stopped default_settings c.args.script.now c.loop-i.world c.step.new.self (drop c.loop-i.i c.args.script.now) (drop (suc c.loop-i.i) c.args.script.now) c.at.result.now c.step.result c.in-Err.fault replayed.refused front c.step.ensures.answer c.in-Err.is c.step.ensures.done c.loop-i.invariant refused some).1)
 
