@@ -7,7 +7,8 @@ use Rattle.ppp_packet.specs.declared.code.Code.TheVariants.{TerminateRequest, Te
 use Rattle.ppp_packet.specs.Code.{code_number}
 use Rattle.ppp_packet.specs.ConfigOption.{ConfigOption}
 use Rattle.ppp_packet.specs.Options.{options_of, written}
-use Rattle.ppp_packet.specs.Packet.{RawPacket}
+use Rattle.ppp_packet.specs.PacketRef.{packet_seen}
+use Rattle.ppp_packet.specs.declared.packet_ref.PacketRef.{PacketRef}
 use Rattle.ppp_auto.specs.declared.auto.Auto.{Auto as KeptAuto}
 use Rattle.ppp_auto.specs.declared.event_table.Cell.{Cell as KeptCell}
 use Rattle.ppp_auto.specs.declared.taken.Taken.{Taken as Kept}
@@ -48,6 +49,9 @@ naks_after a input actions taken =
 -- the own list after a row that asks, where the negotiation begins or goes on, or doesn't ask
 abbrev pub own_after : Table → Bool → Bool → List ConfigOption → List ConfigOption → ℕ → List ConfigOption
 own_after t asked anew adapted own word = if asked then (if anew then t.initial word else adapted) else own
+
+abbrev pub own_renewed : Table → Bool → Bool → Option (List ConfigOption) → List ConfigOption → ℕ → List ConfigOption
+own_renewed t asked anew adapted own word = own_after t asked anew (unwrap_or adapted own) own word
 
 abbrev pub after : Table → Auto → Input → Cell → Taken → ℕ → Auto
 after t a input row taken word = record {
@@ -123,30 +127,47 @@ take_read t a (Some packet) word = take_in t a packet word
 abbrev pub take_octets : Table → Auto → List ℕ → ℕ → Acted
 take_octets t a octets word = take_read t a (packet_of octets) word
 
--- the same of what the code took in
-abbrev pub acts_seen : Table → Auto → Kept → ℕ → Acted
-acts_seen t a taken word = acts_as t a (taken_seen a.own taken) word
-
-abbrev pub row_seen : Table → Auto → Input → Kept → ℕ → Acted
-row_seen t a input taken word = does_row t a input (taken_seen a.own taken) word
-
--- the automaton after octets were taken in, and after a header and what follows it were
-abbrev pub auto_after : Table → Auto → List ℕ → ℕ → Auto
-auto_after t a octets word = (take_octets t a octets word).auto
-
-abbrev pub take_raw : Table → Auto → RawPacket → ℕ → Acted
-take_raw t a raw word = take_read t a (packet_with raw) word
-
--- a Configure-Request with the options of these octets
-abbrev pub take_options : Table → Auto → ℕ → List ℕ → ℕ → Acted
-take_options t a id rest word = take_read t a (option_map (λ list. Request id list) (options_of rest)) word
-
 -- the entries of a step as the layer above sees them
 abbrev pub entries_of : Acted → List Entry
 entries_of acted = map entry_of acted.effects
 
+-- What octets come to, what a packet does that was read, what the options of a Configure-Request do in octets, what
+-- was taken in, and its row: the automaton after it, and the entries.
+abbrev pub auto_after : Table → Auto → List ℕ → ℕ → Auto
+auto_after t a octets word = (take_octets t a octets word).auto
+
 abbrev pub entries_after : Table → Auto → List ℕ → ℕ → List Entry
 entries_after t a octets word = entries_of (take_octets t a octets word)
+
+abbrev pub takes_packet : Table → Auto → PacketRef → ℕ → Acted
+takes_packet t a packet word = take_read t a (packet_with (packet_seen packet)) word
+
+abbrev pub auto_by_packet : Table → Auto → PacketRef → ℕ → Auto
+auto_by_packet t a packet word = (takes_packet t a packet word).auto
+
+abbrev pub entries_by_packet : Table → Auto → PacketRef → ℕ → List Entry
+entries_by_packet t a packet word = entries_of (takes_packet t a packet word)
+
+abbrev pub takes_options : Table → Auto → ℕ → List ℕ → ℕ → Acted
+takes_options t a id rest word = take_read t a (option_map (λ list. Request id list) (options_of rest)) word
+
+abbrev pub auto_by_options : Table → Auto → ℕ → List ℕ → ℕ → Auto
+auto_by_options t a id rest word = (takes_options t a id rest word).auto
+
+abbrev pub entries_by_options : Table → Auto → ℕ → List ℕ → ℕ → List Entry
+entries_by_options t a id rest word = entries_of (takes_options t a id rest word)
+
+abbrev pub auto_by_taken : Table → Auto → Kept → ℕ → Auto
+auto_by_taken t a taken word = (acts_as t a (taken_seen a.own taken) word).auto
+
+abbrev pub entries_by_taken : Table → Auto → Kept → ℕ → List Entry
+entries_by_taken t a taken word = entries_of (acts_as t a (taken_seen a.own taken) word)
+
+abbrev pub auto_by_row : Table → Auto → Input → Kept → ℕ → Auto
+auto_by_row t a input taken word = (does_row t a input (taken_seen a.own taken) word).auto
+
+abbrev pub entries_by_row : Table → Auto → Input → Kept → ℕ → List Entry
+entries_by_row t a input taken word = entries_of (does_row t a input (taken_seen a.own taken) word)
 
 -- the entries of one action, and of actions, as the code has them between the steps of a row
 abbrev pub entries_by : KeptAuto → Kept → Action → List Entry

@@ -5,7 +5,7 @@ ghost use Rattle.std.specs.Prelude.{◌≡◌, ◌+◌, ◌%◌, ◌≤◌, [], 
 ghost use Rattle.std.specs.Option.{unwrap_or};
 ghost use Rattle.ppp_packet.specs.Options.{written};
 ghost use Rattle.ppp_auto.specs.Auto.{auto_seen, begins_anew, begun, IsAuto, last_id};
-ghost use Rattle.ppp_auto.specs.Automaton.{CanKeep, counts_anew, GoesOn, is_nak, naks_counted, own_after};
+ghost use Rattle.ppp_auto.specs.Automaton.{CanKeep, counts_anew, GoesOn, is_nak, naks_counted, own_renewed};
 ghost use Rattle.ppp_auto.specs.EventTable.{acks, cell_seen};
 ghost use Rattle.ppp_auto.specs.Taken.{IsFit, taken_seen};
 ghost use Rattle.ppp_auto.specs.declared.reply.TheConstants.{MAX_FAILURE};
@@ -168,7 +168,7 @@ fn renew<T: OptionTable>(
 )
     requires own { T.sendable table.now own.old }
     requires adapted { IfSome adapted.now (T.sendable table.now) }
-    ensures value { own.new ≡ own_after (T.table table.now) asks anew (unwrap_or adapted.now own.old) own.old word }
+    ensures value { own.new ≡ own_renewed (T.table table.now) asks anew adapted.now own.old word }
     ensures sendable { T.sendable table.now own.new }
 {
     if !asks {

@@ -6,7 +6,7 @@ ghost use Rattle.ppp_packet.specs.Options.{options_of};
 ghost use Rattle.ppp_packet.specs.Packet.{packet_octets};
 ghost use Rattle.ppp_packet.specs.PacketRef.{packet_seen};
 ghost use Rattle.ppp_auto.specs.Auto.{auto_seen, begun, is_off, is_stopped, is_timed, IsCap, mine_of, peer_of};
-ghost use Rattle.ppp_auto.specs.Automaton.{acts_seen, all_entries_by, answering, auto_after, command, entries_after, entries_by, entries_of, row_seen, take_options, take_raw, tells_rejected};
+ghost use Rattle.ppp_auto.specs.Automaton.{all_entries_by, answering, auto_after, auto_by_options, auto_by_packet, auto_by_row, auto_by_taken, command, entries_after, entries_by, entries_by_options, entries_by_packet, entries_by_row, entries_by_taken, entries_of, tells_rejected};
 ghost use Rattle.ppp_auto.specs.Outbox.{entry_of};
 ghost use Rattle.ppp_auto.specs.Packet.{packet_with, Request};
 ghost use Rattle.ppp_auto.specs.Taken.{input_of, IsFit, judging, taken_as, taken_seen};
@@ -95,8 +95,8 @@ impl<T: OptionTable> Automaton<T> {
         requires empty { out.old ≡ [] }
         requires whole { whole.now ≡ packet_octets packet.code packet.id packet.rest.now }
         ensures table { self.new.0 ≡ self.old.0 }
-        ensures auto { self.new.1 ≡ (take_raw (T.table self.old.0) self.old.1 (packet_seen packet.entry) word).auto }
-        ensures out { out.new ≡ entries_of (take_raw (T.table self.old.0) self.old.1 (packet_seen packet.entry) word) }
+        ensures auto { self.new.1 ≡ auto_by_packet (T.table self.old.0) self.old.1 packet.entry word }
+        ensures out { out.new ≡ entries_by_packet (T.table self.old.0) self.old.1 packet.entry word }
     {
         if packet.code == Code::ConfigureRequest.number() {
             self.take_request(packet.id, packet.rest, word, out);
@@ -109,8 +109,8 @@ impl<T: OptionTable> Automaton<T> {
     fn take_request(&mut self, id: u8, rest: &[u8], word: u64, out: &mut Outbox)
         requires { out.old ≡ [] }
         ensures table { self.new.0 ≡ self.old.0 }
-        ensures auto { self.new.1 ≡ (take_options (T.table self.old.0) self.old.1 id rest.now word).auto }
-        ensures out { out.new ≡ entries_of (take_options (T.table self.old.0) self.old.1 id rest.now word) }
+        ensures auto { self.new.1 ≡ auto_by_options (T.table self.old.0) self.old.1 id rest.now word }
+        ensures out { out.new ≡ entries_by_options (T.table self.old.0) self.old.1 id rest.now word }
     {
         let Some(theirs) = read_options(rest) else {
             return;
@@ -126,8 +126,8 @@ impl<T: OptionTable> Automaton<T> {
         requires empty { out.old ≡ [] }
         requires fit { IsFit (T.sendable self.old.0) (taken_seen self.old.1.own taken.now) }
         ensures table { self.new.0 ≡ self.old.0 }
-        ensures auto { self.new.1 ≡ (acts_seen (T.table self.old.0) self.old.1 taken.now word).auto }
-        ensures out { out.new ≡ entries_of (acts_seen (T.table self.old.0) self.old.1 taken.now word) }
+        ensures auto { self.new.1 ≡ auto_by_taken (T.table self.old.0) self.old.1 taken.now word }
+        ensures out { out.new ≡ entries_by_taken (T.table self.old.0) self.old.1 taken.now word }
     {
         match taken.input {
             Some(input) => self.do_row(input, taken, word, out),
@@ -141,8 +141,8 @@ impl<T: OptionTable> Automaton<T> {
         requires input { taken.now.input ≡ Some input }
         requires fit { IsFit (T.sendable self.old.0) (taken_seen self.old.1.own taken.now) }
         ensures table { self.new.0 ≡ self.old.0 }
-        ensures auto { self.new.1 ≡ (row_seen (T.table self.old.0) self.old.1 input taken.now word).auto }
-        ensures out { out.new ≡ entries_of (row_seen (T.table self.old.0) self.old.1 input taken.now word) }
+        ensures auto { self.new.1 ≡ auto_by_row (T.table self.old.0) self.old.1 input taken.now word }
+        ensures out { out.new ≡ entries_by_row (T.table self.old.0) self.old.1 input taken.now word }
     {
         let cell = Cell::of(input, self.auto.state);
         self.auto.go_on(&self.table, input, &cell, taken, word);
