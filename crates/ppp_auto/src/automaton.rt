@@ -202,13 +202,6 @@ impl<T: OptionTable> Automaton<T> {
         }
     }
 
-    /// The own list: that of the last Configure-Request, or of the first before it was sent.
-    pub fn own(&self) -> &OptList
-        ensures { result.now ≡ self.now.1.own }
-    {
-        &self.auto.own
-    }
-
     /// The table.
     pub fn table(&self) -> &T
         ensures { result.now ≡ self.now.0 }
