@@ -13,7 +13,7 @@ use Rattle.ppp_world.specs.Run.{Moment, Place, moment_at, after_moment, deliveri
 use Rattle.ppp_world.specs.Settings.{Settings, AreRanged, setup_of}
 use Rattle.ppp_world.specs.Step.{moved, next_delivery, settling}
 use Rattle.ppp_world.specs.TwoEnds.{TwoEnds, settings_of, duet_seen, AreKept}
-use Rattle.ppp_world.specs.World.{World, world_of, place_of, fault_of, written_by, unless_halted, does_moment, does_moments, does_step, world_after, UnlessMemory, Makes, AreLed, IsLedUnless, IsCounted}
+use Rattle.ppp_world.specs.World.{World, world_of, place_of, fault_of, written_by, unless_halted, does_moment, does_moments, does_step, world_after, settled, UnlessMemory, Makes, AreLed, IsLedUnless, IsCounted}
 use Rattle.ppp_world.specs.declared.outstanding.Outstanding.{Outstanding as Outstanding'}
 use Rattle.ppp_world.specs.declared.refusal.Refusal.{Refusal}
 use Rattle.ppp_world.specs.declared.step.Step.{Step}
@@ -267,10 +267,6 @@ unless_later : (o : Option WorldFault) (now next : World) (P : Type 0) → now.h
 unless_later None now next P is stays p = unless_always next.halt p
 unless_later (Some Memory) now next P is stays p = let same : next ≡ now = stays (rw is refl) in rw (same, is) tt
 unless_later (Some (Outstanding end link protocol sent oldest)) now next P is stays p = unless_always next.halt p
-
--- so many deliveries, from where a world is
-abbrev pub settled : ℕ → World → World
-settled count w = does_moments w (deliveries w.settings count (place_of w))
 
 settled_next : (count : ℕ) (w : World) → settled (suc count) w ≡ settled count (does_step w (next_delivery w.duet))
 settled_next count w =

@@ -1,6 +1,7 @@
 -- What an end's Configure-Requests are counted by, and the marks of what it sends.
-use Rattle.std.specs.Prelude.{◌≡◌, ℕ, ◌+◌, ◌%◌, ◌==◌, Bool, true, false, if◌then◌else◌, List, [], ◌∷◌}
+use Rattle.std.specs.Prelude.{◌≡◌, ℕ, ◌+◌, ◌%◌, ◌==◌, Bool, true, false, if◌then◌else◌, List, [], ◌∷◌, ◌++◌, take}
 use Rattle.ppp_packet.specs.ConfigOption.{ConfigOption}
+use Rattle.ppp_packet.specs.Options.{list_of}
 use Rattle.ppp_auto.specs.declared.auto_state.AutoState.{AutoState}
 use Rattle.ppp_auto.specs.declared.auto_state.AutoState.TheVariants.{ReqSent, AckRcvd, AckSent, Opened}
 use Rattle.ppp_auto.specs.Auto.{Auto}
@@ -10,6 +11,7 @@ use Rattle.ppp_duet.specs.Duet.{Marked, mark_of, End}
 use Rattle.ppp_auto.specs.Auto.{is_off}
 use Rattle.ppp_world.specs.Frame.{packet_held, HoldsPacket}
 use Rattle.ppp_world.specs.declared.ledger.TheConstants.{FIRST_ID}
+use Rattle.ppp_world.specs.declared.queue.TheConstants.{ROOM}
 
 pub record Ledger : Type 0 where
   -- how many Configure-Requests were sent, but for those that repeat another
@@ -20,6 +22,10 @@ pub record Ledger : Type 0 where
   pub got : ℕ
   -- the own list when the request was judged that was acknowledged last
   pub against : List ConfigOption
+
+-- the lists as their octets
+abbrev pub ledger_with : ℕ → List ℕ → ℕ → List ℕ → Ledger
+ledger_with n last got against = record { n = n; last = list_of last; got = got; against = list_of against }
 
 abbrev pub ledger_begun : Ledger
 ledger_begun = record { n = 0; last = []; got = 0; against = [] }
@@ -85,3 +91,10 @@ pub record IsLedgerOf (auto : Auto) (g : Ledger) : Type 0 where
 -- the end that the laws of two ends speak of
 abbrev pub end_of : Auto → Ledger → End
 end_of auto g = record { auto = auto; n = g.n; got = g.got; against = g.against }
+
+-- the packets of an outbox with their marks, and a queue with them behind: one that is sent into a full queue is lost
+abbrev pub posted : Ledger → ℕ → List Entry → List Marked
+posted g mark es = stamped g mark (packets_in es)
+
+abbrev pub queued : List Marked → List Marked → List Marked
+queued queue sent = take ROOM (queue ++ sent)

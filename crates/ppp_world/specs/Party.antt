@@ -19,6 +19,10 @@ pub record Party : Type 0 where
 abbrev pub settings_seen : LcpTable → LcpSettings
 settings_seen t = record { mru = t.mru; magic = t.magic }
 
+-- a party as its parts say
+abbrev pub party_with : LcpTable → Auto → Ledger → Party
+party_with t auto g = record { settings = settings_seen t; auto = auto; ledger = g }
+
 -- the table of options that it is
 abbrev pub lcp_of : LcpTable → Table
 lcp_of t = lcp_table (settings_seen t)
@@ -51,3 +55,15 @@ taken p m word = take_in (lcp_table p.settings) p.auto m.packet word
 
 abbrev pub party_hearing : Party → Marked → Party
 party_hearing p m = record p { ledger = heard p.ledger p.auto.state m.mark m.packet }
+
+abbrev pub party_commanded : Party → AutoEvent → ℕ → Party
+party_commanded p event word = party_after p (commanded p event word)
+
+abbrev pub sent_commanded : Party → AutoEvent → ℕ → List Marked
+sent_commanded p event word = sent_by p 0 (commanded p event word)
+
+abbrev pub party_taking : Party → Marked → ℕ → Party
+party_taking p m word = party_after (party_hearing p m) (taken p m word)
+
+abbrev pub sent_taking : Party → Marked → ℕ → List Marked
+sent_taking p m word = sent_by (party_hearing p m) m.mark (taken p m word)

@@ -96,6 +96,10 @@ abbrev pub before_refusal : List Moment → List Moment
 before_refusal [] = []
 before_refusal (m ∷ ms) = kept_with m (outstanding_in m.after) (before_refusal ms)
 
+-- what a replay reports: the steps before the first that is refused
+abbrev pub report_of : Settings → List Event → List ℕ
+report_of s events = report (before_refusal (run_of s events))
+
 -- two Opened ends agree in every state of a run
 abbrev pub AgreesThroughout : List Moment → Type 0
 AgreesThroughout ms = All (λ m. AgreesEverywhere m.after) ms

@@ -7,7 +7,7 @@ use Rattle.ppp_duet.specs.Reached.{Reached}
 use Rattle.ppp_duet.specs.Span.{Narrow}
 use Rattle.ppp_script.specs.declared.event.Event.{Event}
 use Rattle.ppp_world.specs.Outstanding.{outstanding_in}
-use Rattle.ppp_world.specs.Run.{Moment, Place, moment_at, moments_of, shown}
+use Rattle.ppp_world.specs.Run.{Moment, Place, moment_at, deliveries, moments_of, shown}
 use Rattle.ppp_world.specs.Settings.{Settings, AreRanged, setup_of}
 use Rattle.ppp_world.specs.TwoEnds.{TwoEnds, settings_of, duet_seen, AreKept}
 use Rattle.ppp_world.specs.declared.outstanding.Outstanding.{Outstanding as Outstanding'}
@@ -64,6 +64,10 @@ does_step w step = does_moment w (moment_at w.settings (place_of w) step)
 
 abbrev pub world_after : World → Event → World
 world_after w event = does_moments w (moments_of w.settings event (place_of w))
+
+-- so many deliveries
+abbrev pub settled : ℕ → World → World
+settled count w = does_moments w (deliveries w.settings count (place_of w))
 
 -- what a step answers
 abbrev pub answer_of : Option WorldFault → Result (Unit {0}) WorldFault

@@ -2,7 +2,7 @@
 
 ghost use Rattle.std.specs.Prelude.{◌≡◌, IfOk, Some};
 ghost use Rattle.ppp_auto.specs.Packet.{packet_of};
-ghost use Rattle.ppp_world.specs.Frame.{kind_of, packet_held, HoldsPacket};
+ghost use Rattle.ppp_world.specs.Frame.{frame_with, kind_of, packet_held, HoldsPacket};
 
 use ppp_auto::Memory;
 use ppp_packet::Code;
@@ -49,11 +49,11 @@ pub(crate) struct Frame {
 
 impl Model for Frame {
     ghost use Rattle.ppp_duet.specs.Duet.{Marked};
-    ghost use Rattle.ppp_world.specs.Frame.{packet_held, HoldsPacket};
+    ghost use Rattle.ppp_world.specs.Frame.{frame_with, HoldsPacket};
 
     ghost Value = { Marked };
 
-    ghost view = { λ f. record { mark = f.mark; packet = packet_held f.octets.items } };
+    ghost view = { λ f. frame_with f.mark f.octets.items };
 
     ghost invariant = { λ f. HoldsPacket f.octets.items };
 }
@@ -62,7 +62,7 @@ impl Frame {
     /// A frame with that mark and these octets.
     pub(crate) fn new(alloc: Global, mark: u64, octets: &[u8]) -> Result<Frame, Memory>
         requires { HoldsPacket octets.now }
-        ensures { IfOk result (λ f. f ≡ record { mark = mark; packet = packet_held octets.now }) }
+        ensures { IfOk result (λ f. f ≡ frame_with mark octets.now) }
     {
         match Vec::from_slice(alloc, octets) {
             Ok(octets) => Ok(Frame { mark, octets }),

@@ -25,12 +25,12 @@ pub(crate) struct Ledger {
 }
 
 impl Model for Ledger {
-    ghost use Rattle.ppp_packet.specs.Options.{HoldsOptions, list_of};
+    ghost use Rattle.ppp_packet.specs.Options.{HoldsOptions};
     ghost use Rattle.ppp_world.specs.Ledger as spec;
 
     ghost Value = { spec.Ledger };
 
-    ghost view = { λ g. record { n = g.sent; last = list_of g.last.items; got = g.got; against = list_of g.against.items } };
+    ghost view = { λ g. spec.ledger_with g.sent g.last.items g.got g.against.items };
 
     ghost invariant = { λ g. HoldsOptions g.last.items × HoldsOptions g.against.items };
 }

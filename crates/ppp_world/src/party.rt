@@ -6,9 +6,9 @@ ghost use Rattle.ppp_auto.specs.Outbox.{entry_seen};
 ghost use Rattle.ppp_auto.specs.Packet.{Packet};
 ghost use Rattle.ppp_duet.specs.Duet.{mark_of};
 ghost use Rattle.ppp_world.specs.Frame.{kind_of, packet_held, HoldsPacket};
-ghost use Rattle.ppp_world.specs.Ledger.{noted_all, packets_in, stamped, AllHold};
+ghost use Rattle.ppp_world.specs.Ledger.{noted, noted_all, packets_in, posted, queued, stamped, AllHold};
 ghost use Rattle.ppp_world.specs.LcpSettings.{default_lcp};
-ghost use Rattle.ppp_world.specs.Party.{commanded, party_after, party_begun, party_hearing, sent_by, taken};
+ghost use Rattle.ppp_world.specs.Party.{party_begun, party_commanded, party_taking, sent_commanded, sent_taking};
 ghost use Rattle.ppp_world.specs.declared.queue.TheConstants.{ROOM};
 
 use crate::frame::{Frame, PacketKind};
@@ -28,12 +28,11 @@ pub(crate) struct Party {
 }
 
 impl Model for Party {
-    ghost use Rattle.ppp_world.specs.Party.{settings_seen};
     ghost use Rattle.ppp_world.specs.Party as spec;
 
     ghost Value = { spec.Party };
 
-    ghost view = { λ p. record { settings = settings_seen p.automaton.0; auto = p.automaton.1; ledger = p.ledger } };
+    ghost view = { λ p. spec.party_with p.automaton.0 p.automaton.1 p.ledger };
 }
 
 impl Party {
@@ -58,9 +57,9 @@ impl Party {
     ) -> Result<(), Memory>
         requires few { self.old.ledger.n < 2 ^ 63 }
         requires room { length queue.old ≤ ROOM }
-        ensures end { OnOk result (self.new ≡ party_after self.old (commanded self.old event word)) }
+        ensures end { OnOk result (self.new ≡ party_commanded self.old event word) }
         ensures settings { self.new.settings ≡ self.old.settings }
-        ensures sent { OnOk result (queue.new ≡ take ROOM (queue.old ++ sent_by self.old 0 (commanded self.old event word))) }
+        ensures sent { OnOk result (queue.new ≡ queued queue.old (sent_commanded self.old event word)) }
         ensures room { length queue.new ≤ ROOM }
     {
         self.automaton.event(event, word, out);
@@ -78,9 +77,9 @@ impl Party {
     ) -> Result<(), Memory>
         requires few { self.old.ledger.n < 2 ^ 63 }
         requires room { length queue.old ≤ ROOM }
-        ensures end { OnOk result (self.new ≡ party_after (party_hearing self.old frame.now) (taken self.old frame.now word)) }
+        ensures end { OnOk result (self.new ≡ party_taking self.old frame.now word) }
         ensures settings { self.new.settings ≡ self.old.settings }
-        ensures sent { OnOk result (queue.new ≡ take ROOM (queue.old ++ sent_by (party_hearing self.old frame.now) frame.now.mark (taken self.old frame.now word))) }
+        ensures sent { OnOk result (queue.new ≡ queued queue.old (sent_taking self.old frame.now word)) }
         ensures room { length queue.new ≤ ROOM }
     {
         self.ledger.hear(self.automaton.state(), frame);
@@ -136,7 +135,7 @@ fn post(
     requires few { ledger.old.n < 2 ^ 63 }
     requires room { length queue.old ≤ ROOM }
     ensures ledger { OnOk result (ledger.new ≡ noted_all ledger.old (packets_in out.now)) }
-    ensures queue { OnOk result (queue.new ≡ take ROOM (queue.old ++ stamped ledger.old mark (packets_in out.now))) }
+    ensures queue { OnOk result (queue.new ≡ queued queue.old (posted ledger.old mark out.now)) }
     ensures room { length queue.new ≤ ROOM }
 {
     for i in 0..out.count() {
@@ -156,8 +155,10 @@ fn post_entry(
     requires held { AllHold (entry_seen entry ∷ []) }
     requires few { ledger.old.n + 256 < 2 ^ 64 }
     requires room { length queue.old ≤ ROOM }
-    ensures ledger { OnOk result (ledger.new ≡ noted_all ledger.old (packets_in (entry_seen entry.entry ∷ []))) }
-    ensures queue { OnOk result (queue.new ≡ take ROOM (queue.old ++ stamped ledger.old mark (packets_in (entry_seen entry.entry ∷ [])))) }
+    ensures ledger { OnOk result
+        (ledger.new ≡ noted_all ledger.old (packets_in (entry_seen entry.entry ∷ []))) }
+    ensures queue { OnOk result
+        (queue.new ≡ queued queue.old (posted ledger.old mark (entry_seen entry.entry ∷ []))) }
     ensures room { length queue.new ≤ ROOM }
 {
     match entry {
@@ -177,8 +178,9 @@ fn post_packet(
     requires held { HoldsPacket octets.now }
     requires few { ledger.old.n + 256 < 2 ^ 64 }
     requires room { length queue.old ≤ ROOM }
-    ensures ledger { OnOk result (ledger.new ≡ noted_all ledger.old (packet_held octets.now ∷ [])) }
-    ensures queue { OnOk result (queue.new ≡ take ROOM (queue.old ++ stamped ledger.old mark (packet_held octets.now ∷ []))) }
+    ensures ledger { OnOk result (ledger.new ≡ noted ledger.old (packet_held octets.now)) }
+    ensures queue { OnOk result
+        (queue.new ≡ queued queue.old (stamped ledger.old mark (packet_held octets.now ∷ []))) }
     ensures room { length queue.new ≤ ROOM }
 {
     let kind = PacketKind::of(octets);

@@ -2,7 +2,7 @@
 
 ghost use Rattle.std.specs.Prelude.{◌≡◌, ◌+◌, ◌≤◌, None, IsSome, IfOk};
 ghost use Rattle.ppp_world.specs.Refusal.{refusal_in};
-ghost use Rattle.ppp_world.specs.Run.{before_refusal, refusal, report, run_of, AgreesThroughout};
+ghost use Rattle.ppp_world.specs.Run.{before_refusal, refusal, report, report_of, run_of, AgreesThroughout};
 ghost use Rattle.ppp_world.specs.Settings.{default_settings};
 
 use crate::outstanding::Outstanding;
@@ -25,9 +25,10 @@ pub struct Replayed {
 /// Replays a script, up to the first step that is refused. In every state of its run two Opened ends agree, on each link
 /// and in each protocol.
 pub fn replay(alloc: Global, script: &Script<Event>) -> Result<Replayed, Memory>
-    ensures report { IfOk result (λ replayed. replayed.report.items ≡ report (before_refusal (run_of default_settings script.now))) }
-    ensures refused { IfOk result (λ replayed. replayed.refused ≡ refusal (run_of default_settings script.now)) }
-    ensures whole { IfOk result (λ replayed. replayed.refused ≡ None → replayed.report.items ≡ report (run_of default_settings script.now)) }
+    ensures report { IfOk result (λ r. r.report.items ≡ report_of default_settings script.now) }
+    ensures refused { IfOk result (λ r. r.refused ≡ refusal (run_of default_settings script.now)) }
+    ensures whole { IfOk result
+        (λ r. r.refused ≡ None → r.report.items ≡ report (run_of default_settings script.now)) }
     ensures agreement { AgreesThroughout (before_refusal (run_of default_settings script.now)) }
 {
     let mut world = World::new(alloc)?;
@@ -47,7 +48,7 @@ pub fn replay(alloc: Global, script: &Script<Event>) -> Result<Replayed, Memory>
 fn stopped(world: World, fault: WorldFault) -> Result<Replayed, Memory>
     requires { world.steps ≤ 100000 }
     ensures report { IfOk result (λ replayed. replayed.report.items ≡ world.report) }
-    ensures refused { IfOk result (λ replayed. replayed.refused ≡ refusal_in (world.steps + 1) fault) }
+    ensures refused { IfOk result (λ r. r.refused ≡ refusal_in (world.steps + 1) fault) }
     ensures some { IfOk result (λ replayed. IsSome replayed.refused) }
 {
     let step = world.steps() + 1;

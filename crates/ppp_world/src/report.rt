@@ -16,7 +16,8 @@ use std::fmt;
 
 /// Writes the block of a `show` at a step.
 pub(crate) fn write_show(report: &mut String, number: u32, ends: &TwoEnds) -> Result<(), Memory>
-    ensures { OnOk result (string_bytes report.new ≡ string_bytes report.old ++ show_block number (duet_seen ends.now)) }
+    ensures { OnOk result (string_bytes report.new
+        ≡ string_bytes report.old ++ show_block number (duet_seen ends.now)) }
 {
     let line = Line { ends };
     write!(report, "show {number}\n{line}").map_err(|_| Memory)

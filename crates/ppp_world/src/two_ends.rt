@@ -1,13 +1,12 @@
 //! The two ends of the link and what is under way between them.
 
 ghost use Rattle.std.specs.Prelude.{◌≡◌, ◌≤◌, ◌<◌, ◌^◌, ◌++◌, take, length, OnOk, IfOk};
-ghost use Rattle.ppp_duet.specs.Duet.{happens};
 ghost use Rattle.ppp_duet.specs.Reached.{OldestFirst};
 ghost use Rattle.ppp_duet.specs.Span.{answers, least, requests};
 ghost use Rattle.ppp_world.specs.Outstanding.{oldest_of, outstanding_in, outstanding_of};
 ghost use Rattle.ppp_world.specs.Party.{end_seen, IsKept};
-ghost use Rattle.ppp_world.specs.Settings.{default_settings, setup_of};
-ghost use Rattle.ppp_world.specs.Step.{event_of, next_delivery, within_room, word_of};
+ghost use Rattle.ppp_world.specs.Settings.{default_settings};
+ghost use Rattle.ppp_world.specs.Step.{moved, next_delivery, word_of};
 ghost use Rattle.ppp_world.specs.TwoEnds.{acted, duet_seen, ends_begun, settings_of, AreKept};
 ghost use Rattle.ppp_world.specs.declared.queue.TheConstants.{ROOM};
 
@@ -68,7 +67,8 @@ impl TwoEnds {
         requires few_a { self.old.a.ledger.n < 2 ^ 63 }
         requires few_b { self.old.b.ledger.n < 2 ^ 63 }
         ensures settings { settings_of self.new ≡ settings_of self.old }
-        ensures duet { OnOk result (duet_seen self.new ≡ within_room (happens (setup_of self.old.a.settings) (setup_of self.old.b.settings) (duet_seen self.old) (event_of number at what))) }
+        ensures duet { OnOk result (duet_seen self.new
+            ≡ moved (settings_of self.old) number (duet_seen self.old) (Step.Happens at what)) }
         ensures kept { OnOk result (AreKept self.new) }
     {
         let word = word_at(at, number);
@@ -157,11 +157,14 @@ fn act(
     requires few { party.old.ledger.n < 2 ^ 63 }
     requires room_in { length incoming.old ≤ ROOM }
     requires room_out { length outgoing.old ≤ ROOM }
-    ensures end { OnOk result (end_seen party.new ≡ (acted party.old incoming.old outgoing.old what word).a) }
+    ensures end { OnOk result
+        (end_seen party.new ≡ (acted party.old incoming.old outgoing.old what word).a) }
     ensures settings { party.new.settings ≡ party.old.settings }
     ensures kept { OnOk result (IsKept party.new) }
-    ensures incoming { OnOk result (incoming.new ≡ (acted party.old incoming.old outgoing.old what word).to_a) }
-    ensures outgoing { OnOk result (outgoing.new ≡ take ROOM (acted party.old incoming.old outgoing.old what word).to_b) }
+    ensures incoming { OnOk result
+        (incoming.new ≡ (acted party.old incoming.old outgoing.old what word).to_a) }
+    ensures outgoing { OnOk result
+        (outgoing.new ≡ take ROOM (acted party.old incoming.old outgoing.old what word).to_b) }
     ensures room_in { length incoming.new ≤ ROOM }
     ensures room_out { length outgoing.new ≤ ROOM }
 {
@@ -180,7 +183,8 @@ fn act(
 
 /// An end's span, if it is too wide: after so many requests, with what is under way from it and back to it.
 fn outstanding_of(end: End, sent: u64, out: &Queue, back: &Queue) -> Option<Outstanding>
-    requires { oldest_of sent out.now back.now ≡ least sent (take 1 (requests out.now) ++ take 1 (answers back.now)) }
+    requires { oldest_of sent out.now back.now
+        ≡ least sent (take 1 (requests out.now) ++ take 1 (answers back.now)) }
     ensures { result ≡ outstanding_of end sent out.now back.now }
 {
     let by_request = out.first_request().unwrap_or(sent);

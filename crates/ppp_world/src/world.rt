@@ -6,11 +6,11 @@ ghost use Rattle.ppp_duet.specs.Reached.{OldestFirst};
 ghost use Rattle.ppp_script.specs.Event.{steps_in};
 ghost use Rattle.ppp_world.specs.Agreement.{agree_at, AreOpenedAt};
 ghost use Rattle.ppp_world.specs.Outstanding.{outstanding_in};
-ghost use Rattle.ppp_world.specs.Run.{deliveries, shown_at};
+ghost use Rattle.ppp_world.specs.Run.{shown_at};
 ghost use Rattle.ppp_world.specs.Settings.{default_settings};
 ghost use Rattle.ppp_world.specs.Step.{moved};
 ghost use Rattle.ppp_world.specs.TwoEnds.{duet_seen, settings_of, AreKept};
-ghost use Rattle.ppp_world.specs.World.{answer_of, does_moments, does_step, fault_in, fault_of, place_of, world_after, world_begun, world_of, AreLed, Makes, UnlessMemory};
+ghost use Rattle.ppp_world.specs.World.{answer_of, does_step, fault_in, fault_of, settled, world_after, world_begun, world_of, AreLed, Makes, UnlessMemory};
 
 use crate::agreement::agree;
 use crate::outstanding::Outstanding;
@@ -36,13 +36,12 @@ pub struct World {
 
 impl Model for World {
     ghost use Rattle.std.specs.String.{string_bytes};
-    ghost use Rattle.ppp_world.specs.TwoEnds.{duet_seen, settings_of};
     ghost use Rattle.ppp_world.specs.World.{IsLedUnless};
     ghost use Rattle.ppp_world.specs.World as spec;
 
     ghost Value = { spec.World };
 
-    ghost view = { λ w. record { settings = settings_of w.ends; duet = duet_seen w.ends; steps = w.steps; report = string_bytes w.report; halt = w.halt } };
+    ghost view = { λ w. spec.world_of w.ends w.steps (string_bytes w.report) w.halt };
 
     ghost invariant = { λ w. IsLedUnless w.halt w.ends w.steps };
 }
@@ -67,7 +66,8 @@ impl World {
     pub fn step(&mut self, event: &Event) -> Result<(), WorldFault>
         requires { self.old.steps + steps_in event.now ≤ 100000 }
         ensures done { UnlessMemory self.new.halt (self.new ≡ world_after self.old event.now) }
-        ensures makes { UnlessMemory self.new.halt (Makes self.old.settings (steps_in event.now) self.old.duet self.new.duet) }
+        ensures makes { UnlessMemory self.new.halt
+            (Makes self.old.settings (steps_in event.now) self.old.duet self.new.duet) }
         ensures answer { result ≡ answer_of self.new.halt }
         ensures halted { IsSome self.old.halt → self.new ≡ self.old }
         ensures steps { self.new.steps ≤ self.old.steps + steps_in event.now }
@@ -131,7 +131,7 @@ impl World {
     /// Does that many deliveries, each of the front frame of the first queue that isn't empty.
     fn settle(&mut self, count: u16)
         requires { self.old.steps + count ≤ 100000 }
-        ensures done { UnlessMemory self.new.halt (self.new ≡ does_moments self.old (deliveries self.old.settings count (place_of self.old))) }
+        ensures done { UnlessMemory self.new.halt (self.new ≡ settled count self.old) }
         ensures halted { IsSome self.old.halt → self.new ≡ self.old }
         ensures steps { self.new.steps ≤ self.old.steps + count }
     {
@@ -167,7 +167,9 @@ fn go(
 ) -> Result<(), WorldFault>
     requires led { AreLed ends.old steps.old }
     requires few { steps.old + 1 ≤ 100000 }
-    ensures done { UnlessMemory (fault_in result) (world_of ends.new steps.new (string_bytes report.new) (fault_in result) ≡ does_step (world_of ends.old steps.old (string_bytes report.old) None) step) }
+    ensures done { UnlessMemory (fault_in result)
+        (world_of ends.new steps.new (string_bytes report.new) (fault_in result)
+            ≡ does_step (world_of ends.old steps.old (string_bytes report.old) None) step) }
     ensures led { OnOk result (AreLed ends.new steps.new) }
     ensures steps { steps.new ≤ steps.old + 1 }
 {
@@ -192,7 +194,8 @@ fn go(
 /// A span that is too wide, where one can have become so: no span becomes wider where its end draws no ordinal.
 fn wider_since(ends: &TwoEnds, sent_a: u64, sent_b: u64) -> Option<Outstanding>
     requires oldest { OldestFirst (duet_seen ends.now) }
-    requires still { ends.now.a.ledger.n ≤ sent_a → ends.now.b.ledger.n ≤ sent_b → outstanding_in (duet_seen ends.now) ≡ None }
+    requires still { ends.now.a.ledger.n ≤ sent_a → ends.now.b.ledger.n ≤ sent_b
+        → outstanding_in (duet_seen ends.now) ≡ None }
     ensures { result ≡ outstanding_in (duet_seen ends.now) }
 {
     if ends.a().sent() <= sent_a && ends.b().sent() <= sent_b {
@@ -221,7 +224,8 @@ fn advance(ends: &mut TwoEnds, number: u32, step: Step) -> Result<(), Memory>
     requires few_a { ends.old.a.ledger.n < 2 ^ 63 }
     requires few_b { ends.old.b.ledger.n < 2 ^ 63 }
     ensures settings { settings_of ends.new ≡ settings_of ends.old }
-    ensures done { OnOk result (duet_seen ends.new ≡ moved (settings_of ends.old) number (duet_seen ends.old) step) }
+    ensures done { OnOk result
+        (duet_seen ends.new ≡ moved (settings_of ends.old) number (duet_seen ends.old) step) }
     ensures kept { OnOk result (AreKept ends.new) }
 {
     match step {
@@ -232,7 +236,8 @@ fn advance(ends: &mut TwoEnds, number: u32, step: Step) -> Result<(), Memory>
 
 /// Writes what is reported after the step of that number.
 fn show(report: &mut String, number: u32, step: Step, ends: &TwoEnds) -> Result<(), Memory>
-    ensures { OnOk result (string_bytes report.new ≡ string_bytes report.old ++ shown_at number (duet_seen ends.now) step) }
+    ensures { OnOk result (string_bytes report.new
+        ≡ string_bytes report.old ++ shown_at number (duet_seen ends.now) step) }
 {
     match step {
         Step::Reports => write_show(report, number, ends),
