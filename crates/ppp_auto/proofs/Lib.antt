@@ -1,6 +1,7 @@
-pub mod EndLemmas
-pub mod JudgingLemmas
+pub mod AutomatonLemmas
+pub mod FrontLemmas
+pub mod JudgedLemmas
 pub mod ListLemmas
 pub mod OutboxLemmas
 pub mod ReplyLemmas
-pub mod RowLemmas
+pub mod TakenLemmas

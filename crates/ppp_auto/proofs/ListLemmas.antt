@@ -7,8 +7,7 @@ use Rattle.std.proofs.lemmas.Bool.Decides.{Decides-and, Decides-eqb, Decides-lik
 use Rattle.std.proofs.lemmas.Slice.Eq.{bytes_eq-Decides}
 use Rattle.ppp_packet.specs.ConfigOption.{ConfigOption}
 use Rattle.ppp_packet.specs.Options.{option_with}
-use Rattle.ppp_auto.specs.Reply.{same_option, same_list, is_sublist}
-use Rattle.ppp_auto.specs.Views.{after_one}
+use Rattle.ppp_auto.specs.Reply.{same_option, same_list, is_sublist, after_one}
 
 with-same : (k l : ℕ) (x y : List ℕ) → k ≡ l → x ≡ y → option_with k x ≡ option_with l y
 with-same k l x y e f = cc

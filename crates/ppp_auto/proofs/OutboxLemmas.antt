@@ -7,8 +7,7 @@ use Rattle.std.specs.List.{slice_get}
 use Rattle.std.specs.Option.{option_map}
 use Rattle.ppp_auto.specs.declared.outbox.Slot.{Slot}
 use Rattle.ppp_auto.specs.declared.outbox.Slot.TheVariants.{Packet, Told}
-use Rattle.ppp_auto.specs.Automaton.{Entry, Send, Signal}
-use Rattle.ppp_auto.specs.Entries.{entry_kept, AreWithin}
+use Rattle.ppp_auto.specs.Outbox.{Entry, Send, Signal, slot_seen, AreWithin}
 
 pub within-append : (octets more : List ℕ) (slots : List Slot) → AreWithin octets slots → AreWithin (octets ++ more) slots
 within-append octets more [] h = tt
@@ -26,7 +25,7 @@ part-append octets more start end o w =
     let l : end - start ≤ length (drop start octets) = omega (arith, length-drop start octets) in
     ap (take (end - start)) e ∙ take-append-le (end - start) (drop start octets) more l
 
-pub view-append : (octets more : List ℕ) (slots : List Slot) → AreWithin octets slots → map (entry_kept (octets ++ more)) slots ≡ map (entry_kept octets) slots
+pub view-append : (octets more : List ℕ) (slots : List Slot) → AreWithin octets slots → map (slot_seen (octets ++ more)) slots ≡ map (slot_seen octets) slots
 view-append octets more [] h = refl
 view-append octets more (Packet start end ∷ slots) h =
     let p = part-append octets more start end h.0 h.1 in
@@ -49,18 +48,18 @@ within-at octets (Told told ∷ slots) zero d start end h l e = cc
 within-at octets (Packet s t ∷ slots) (suc i) d start end h l e = within-at octets slots i d start end h.3 (omega arith) e
 within-at octets (Told told ∷ slots) (suc i) d start end h l e = within-at octets slots i d start end h (omega arith) e
 
-pub view-at : (octets : List ℕ) (slots : List Slot) (i : ℕ) (d slot : Slot) → i < length slots → get_or slots i d ≡ slot → slice_get (map (entry_kept octets) slots) i ≡ Some (entry_kept octets slot)
+pub view-at : (octets : List ℕ) (slots : List Slot) (i : ℕ) (d slot : Slot) → i < length slots → get_or slots i d ≡ slot → slice_get (map (slot_seen octets) slots) i ≡ Some (slot_seen octets slot)
 view-at octets slots i d slot l e =
-    slice_get-map (entry_kept octets) slots i ∙ (ap (option_map (entry_kept octets)) (slice_get-get_or slots i d l) ∙ ap (λ (s : Slot). Some (entry_kept octets s)) e)
+    slice_get-map (slot_seen octets) slots i ∙ (ap (option_map (slot_seen octets)) (slice_get-get_or slots i d l) ∙ ap (λ (s : Slot). Some (slot_seen octets s)) e)
 
 -- what the outbox shows after one more slot, and more octets
-pub view_snoc : (octets more : List ℕ) (slots : List Slot) (slot : Slot) → AreWithin octets slots → map (entry_kept (octets ++ more)) (slots ++ slot ∷ []) ≡ map (entry_kept octets) slots ++ entry_kept (octets ++ more) slot ∷ []
-view_snoc octets more slots slot h = map-append (entry_kept (octets ++ more)) slots (slot ∷ []) ∙ ap (λ (es : List Entry). es ++ entry_kept (octets ++ more) slot ∷ []) (view-append octets more slots h)
+pub view_snoc : (octets more : List ℕ) (slots : List Slot) (slot : Slot) → AreWithin octets slots → map (slot_seen (octets ++ more)) (slots ++ slot ∷ []) ≡ map (slot_seen octets) slots ++ slot_seen (octets ++ more) slot ∷ []
+view_snoc octets more slots slot h = map-append (slot_seen (octets ++ more)) slots (slot ∷ []) ∙ ap (λ (es : List Entry). es ++ slot_seen (octets ++ more) slot ∷ []) (view-append octets more slots h)
 
 -- a packet put at the end
 pub record Sent (octets all : List ℕ) (slots all_slots : List Slot) (more : List ℕ) : Type 0 where
   pub within : AreWithin all all_slots
-  pub shown : map (entry_kept all) all_slots ≡ map (entry_kept octets) slots ++ Send more ∷ []
+  pub shown : map (slot_seen all) all_slots ≡ map (slot_seen octets) slots ++ Send more ∷ []
 
 pub sent-all : (octets more : List ℕ) (slots : List Slot) (start end : ℕ) → AreWithin octets slots → start ≡ length octets → end ≡ length (octets ++ more) → length more ≤ 1500 →
     Sent octets (octets ++ more) slots (slots ++ Packet start end ∷ []) more
@@ -71,7 +70,7 @@ sent-all octets more slots start end h s e m =
     let w : AreWithin (octets ++ more) (Packet start end ∷ []) = (omega arith, omega arith, omega arith, tt) in
     record {
       within = within_snoc (octets ++ more) slots (Packet start end) (within-append octets more slots h) w;
-      shown = view_snoc octets more slots (Packet start end) h ∙ ap (λ (xs : List ℕ). map (entry_kept octets) slots ++ Send xs ∷ []) p;
+      shown = view_snoc octets more slots (Packet start end) h ∙ ap (λ (xs : List ℕ). map (slot_seen octets) slots ++ Send xs ∷ []) p;
     }
 
 pub sent : (octets more all : List ℕ) (slots all_slots : List Slot) (start end : ℕ) → all ≡ octets ++ more → all_slots ≡ slots ++ Packet start end ∷ [] →

@@ -1,63 +1,93 @@
 -- What answers a request, and that it isn't too long.
-use Rattle.std.proofs.Common.{◌≡◌, ◌≢◌, ℕ, ◌+◌, ◌*◌, ◌<◌, ◌≤◌, Bool, true, false, ◌||◌, ◌==◌, nat_le, List, [], ◌∷◌, ◌++◌, length, Option, Some, None, refl, ap, sym, ◌∙◌, arith, length-append, append-nil, inl, inr}
+use Rattle.std.proofs.Common.{◌≡◌, ◌≢◌, ℕ, ◌+◌, ◌*◌, ◌≤◌, ◌⊎◌, Bool, true, false, ◌||◌, ◌&&◌, ◌==◌, if◌then◌else◌, List, [], ◌∷◌, ◌++◌, length, Option, Some, None, refl, ap, sym, ◌∙◌, arith, length-append, inl, inr}
 use Rattle.std.specs.List.{list_any}
+use Rattle.std.specs.Option.{option_to_list}
 use Rattle.std.proofs.lemmas.List.Folds.{list_any-append}
-use Rattle.std.proofs.lemmas.Bool.{le-leb, eq-eqb, eqb-true}
-use Rattle.std.proofs.lemmas.Bool.Decides.{eqb_tells, leb_tells}
+use Rattle.std.proofs.lemmas.Bool.{eq-eqb, eqb-true}
+use Rattle.std.proofs.lemmas.Bool.Decides.{eqb_tells}
 use Rattle.std.proofs.Math.Bool.{or-false}
 use Rattle.ppp_packet.proofs.OptionLemmas.{written-append, list_of-written}
 use Rattle.ppp_packet.specs.ConfigOption.{ConfigOption}
-use Rattle.ppp_packet.specs.Options.{written, option_octets, list_of}
+use Rattle.ppp_packet.specs.Options.{written, list_of}
+use Rattle.ppp_auto.specs.declared.input.Input.TheVariants.{ReceiveConfigureRequestGood, ReceiveConfigureRequestBad}
+use Rattle.ppp_auto.specs.declared.judged.Judged.{Judged}
+use Rattle.ppp_auto.specs.declared.outbox.TheConstants.{MOST_REST}
 use Rattle.ppp_auto.specs.declared.verdict.Verdict.{Verdict}
 use Rattle.ppp_auto.specs.declared.verdict.Verdict.TheVariants.{Good, Bad, Unknown}
-use Rattle.ppp_auto.specs.Reply.{has_kind, is_refused, rejected, suggested, better_of, as_list, fitting, has_options, reject_room, max_failure, reply_with}
+use Rattle.ppp_auto.specs.Judged.{AreSettled, gathered, IsSettled, judging_by}
 use Rattle.ppp_auto.specs.Lawful.{Lawful, Passes, AllGood, NoneTwice}
-use Rattle.ppp_auto.specs.Packet.{Packet, Ack, Nak, Reject}
 use Rattle.ppp_auto.specs.OptionTable.{Table}
-use Rattle.ppp_auto.specs.Views.{judging_by}
+use Rattle.ppp_auto.specs.Packet.{Packet, Ack, Nak, Reject}
+use Rattle.ppp_auto.specs.Reply.{better_of, fitting, has_kind, has_options, is_refused, is_spent, refusing, rejected, reply_with, suggested, unacceptable}
+use Rattle.ppp_auto.proofs.FrontLemmas.{front_all}
+use Rattle.ppp_auto.proofs.JudgedLemmas.{nothing, something}
 
-over-leb : (a b : ℕ) → b < a → nat_le a b ≡ false
-over-leb a b h = elim (leb_tells a b) as (λ _. nat_le a b ≡ false) [ inl p ↦ absurd (omega (arith, p.1)) | inr p ↦ p.0 ]
+-- what isn't rejected
+pub record IsClean (spent : Bool) (refused better missing bad : List ConfigOption) : Type 0 where
+  pub none : refused ≡ []
+  pub all : gathered spent refused better missing bad ≡ better ++ missing
 
-pub missing_written : (list : List ConfigOption) (m : Option ConfigOption) (o : ConfigOption) → Some o ≡ m → written list ++ option_octets o ≡ written (list ++ as_list m)
-missing_written list m o e = rw (← e, written-append list (o ∷ []), append-nil o.body) refl
+pub clean_settled : (spent : Bool) (refused better missing bad : List ConfigOption) (j : Judged) → IsSettled spent refused better missing bad j → (j.refused || (j.bad && j.spent)) ≡ false → IsClean spent refused better missing bad
+clean_settled spent (x ∷ xs) better missing bad j h r = absurd (something j.refused j.bad j.spent (inl h.refuses) r)
+clean_settled true [] (x ∷ xs) missing bad j h r = absurd (something j.refused j.bad j.spent (inr (h.suggests refl, h.spends)) r)
+clean_settled true [] [] missing bad j h r = record { none = refl; all = refl }
+clean_settled false [] better missing bad j h r = record { none = refl; all = refl }
 
-pub reply_refused : (naks id : ℕ) (theirs refused better missing bad : List ConfigOption) → has_options refused ≡ true →
-    (reply_with naks id theirs refused better missing bad).answer ≡ Reject id (fitting reject_room refused)
-reply_refused naks id theirs [] better missing bad h = cc
-reply_refused naks id theirs (o ∷ os) better missing bad h = refl
+-- the reply, where options are rejected
+pub reply_rejecting : (naks id : ℕ) (theirs : List ConfigOption) (spent : Bool) (refused better missing bad : List ConfigOption) (j : Judged) → is_spent naks ≡ spent → IsSettled spent refused better missing bad j →
+    (j.refused || (j.bad && j.spent)) ≡ true → reply_with naks id theirs refused better missing bad ≡ refusing (Reject id (fitting MOST_REST (gathered spent refused better missing bad)))
+reply_rejecting naks id theirs spent (x ∷ xs) better missing bad j s h r = refl
+reply_rejecting naks id theirs true [] (x ∷ xs) missing bad j s h r = rw s refl
+reply_rejecting naks id theirs true [] [] missing bad j s h r = absurd (nothing j.refused j.bad j.spent h.refuses (inl (h.suggests refl)) r)
+reply_rejecting naks id theirs false [] better missing bad j s h r = absurd (nothing j.refused j.bad j.spent h.refuses (inr h.spends) r)
 
-reply-spent : (naks id : ℕ) (theirs missing bad : List ConfigOption) (o : ConfigOption) (os : List ConfigOption) → nat_le max_failure naks ≡ true →
-    (reply_with naks id theirs [] (o ∷ os) missing bad).answer ≡ Reject id (fitting reject_room bad)
-reply-spent naks id theirs missing bad o os h = rw h refl
+-- where nothing is
+pub reply_clean : (naks id : ℕ) (theirs : List ConfigOption) (spent : Bool) (refused better missing bad : List ConfigOption) (j : Judged) → is_spent naks ≡ spent → IsSettled spent refused better missing bad j →
+    (j.refused || (j.bad && j.spent)) ≡ false → (better ++ missing ≢ []) → reply_with naks id theirs refused better missing bad ≡ refusing (Nak id (better ++ missing))
+reply_clean naks id theirs spent (x ∷ xs) better missing bad j s h r n = absurd (something j.refused j.bad j.spent (inl h.refuses) r)
+reply_clean naks id theirs spent [] [] [] bad j s h r n = absurd (n refl)
+reply_clean naks id theirs spent [] [] (o ∷ os) bad j s h r n = refl
+reply_clean naks id theirs true [] (x ∷ xs) missing bad j s h r n = absurd (something j.refused j.bad j.spent (inr (h.suggests refl, h.spends)) r)
+reply_clean naks id theirs false [] (x ∷ xs) missing bad j s h r n = rw s refl
 
-reply-unspent : (naks id : ℕ) (theirs missing bad : List ConfigOption) (o : ConfigOption) (os : List ConfigOption) → nat_le max_failure naks ≡ false →
-    (reply_with naks id theirs [] (o ∷ os) missing bad).answer ≡ Nak id ((o ∷ os) ++ missing)
-reply-unspent naks id theirs missing bad o os h = rw h refl
+pub reply_good : (naks id : ℕ) (theirs refused better missing bad : List ConfigOption) → refused ≡ [] → better ++ missing ≡ [] →
+    reply_with naks id theirs refused better missing bad ≡ record { input = ReceiveConfigureRequestGood; answer = Ack id theirs }
+reply_good naks id theirs [] [] [] bad f n = refl
+reply_good naks id theirs [] [] (o ∷ os) bad f n = cc
+reply_good naks id theirs [] (o ∷ os) missing bad f n = cc
+reply_good naks id theirs (o ∷ os) better missing bad f n = cc
 
-pub reply_bad : (naks id : ℕ) (theirs refused better missing bad : List ConfigOption) → has_options refused ≡ false → has_options better ≡ true → 5 ≤ naks →
-    (reply_with naks id theirs refused better missing bad).answer ≡ Reject id (fitting reject_room bad)
-reply_bad naks id theirs [] [] missing bad f b n = cc
-reply_bad naks id theirs [] (o ∷ os) missing bad f b n = reply-spent naks id theirs missing bad o os (le-leb 5 naks n)
-reply_bad naks id theirs (o ∷ os) better missing bad f b n = cc
+-- the list that is judged against may be sent
+pub judging_sent : (sendable : List ConfigOption → Type 0) (stopped : Bool) (first own : List ConfigOption) → sendable first → sendable own → sendable (if stopped then first else own)
+judging_sent sendable true first own h k = h
+judging_sent sendable false first own h k = k
 
--- Configure-Naks are left where nothing is bad, or fewer than five were sent
-pub record MayNak (naks : ℕ) (better : List ConfigOption) : Type 0 where
-  pub may : (has_options better ≡ true → naks < 5)
+-- a reply is one of two events
+pub reply_input : (naks id : ℕ) (theirs refused better missing bad : List ConfigOption) →
+    ((reply_with naks id theirs refused better missing bad).input ≡ ReceiveConfigureRequestGood) ⊎ ((reply_with naks id theirs refused better missing bad).input ≡ ReceiveConfigureRequestBad)
+reply_input naks id theirs (o ∷ os) better missing bad = inr refl
+reply_input naks id theirs [] [] [] bad = inl refl
+reply_input naks id theirs [] [] (o ∷ os) bad = inr refl
+reply_input naks id theirs [] (o ∷ os) missing bad = inr (either (is_spent naks) (Reject id (fitting MOST_REST bad)) (Nak id ((o ∷ os) ++ missing)))
+  where
+    either : (b : Bool) (one other : Packet) → (if b then refusing one else refusing other).input ≡ ReceiveConfigureRequestBad
+    either true one other = refl
+    either false one other = refl
 
-pub reply_nak : (naks id : ℕ) (theirs refused better missing bad : List ConfigOption) → has_options refused ≡ false → MayNak naks better → (better ++ missing ≢ []) →
-    (reply_with naks id theirs refused better missing bad).answer ≡ Nak id (better ++ missing)
-reply_nak naks id theirs [] [] [] bad f m n = absurd (n refl)
-reply_nak naks id theirs [] [] (o ∷ os) bad f m n = refl
-reply_nak naks id theirs [] (o ∷ os) missing bad f m n = reply-unspent naks id theirs missing bad o os (over-leb 5 naks (m.may refl))
-reply_nak naks id theirs (o ∷ os) better missing bad f m n = cc
+-- a request is good where nothing is found
+pub record IsFound (refused better missing : List ConfigOption) : Type 0 where
+  pub none : refused ≡ []
+  pub nothing : better ++ missing ≡ []
 
-pub reply_ack : (naks id : ℕ) (theirs refused better missing bad : List ConfigOption) → has_options refused ≡ false → better ++ missing ≡ [] →
-    (reply_with naks id theirs refused better missing bad).answer ≡ Ack id theirs
-reply_ack naks id theirs [] [] [] bad f n = refl
-reply_ack naks id theirs [] [] (o ∷ os) bad f n = cc
-reply_ack naks id theirs [] (o ∷ os) missing bad f n = cc
-reply_ack naks id theirs (o ∷ os) better missing bad f n = cc
+pub good_found : (naks id : ℕ) (theirs refused better missing bad : List ConfigOption) → (reply_with naks id theirs refused better missing bad).input ≡ ReceiveConfigureRequestGood → IsFound refused better missing
+good_found naks id theirs (o ∷ os) better missing bad e = cc
+good_found naks id theirs [] [] [] bad e = record { none = refl; nothing = refl }
+good_found naks id theirs [] [] (o ∷ os) bad e = cc
+good_found naks id theirs [] (o ∷ os) missing bad e = absurd (bad-either (is_spent naks) (Reject id (fitting MOST_REST bad)) (Nak id ((o ∷ os) ++ missing)) e)
+  where
+    bad-either : (b : Bool) (one other : Packet) → (if b then refusing one else refusing other).input ≡ ReceiveConfigureRequestGood → ⊥
+    bad-either true one other e = cc
+    bad-either false one other e = cc
 
 -- how many of the kinds haven't stood in the list so far
 pub count : Bool → ℕ
@@ -186,16 +216,16 @@ back-nil : (xs ys : List ConfigOption) → xs ++ ys ≡ [] → ys ≡ []
 back-nil [] ys n = n
 back-nil (x ∷ xs) ys n = cc
 
-missing-none : (m : Option ConfigOption) → as_list m ≡ [] → m ≡ None
+missing-none : (m : Option ConfigOption) → option_to_list m ≡ [] → m ≡ None
 missing-none None n = refl
 missing-none (Some o) n = cc
 
 pub passes_if : (t : Table) (own : List ConfigOption) (word : ℕ) (theirs : List ConfigOption) → false ≡ has_options (rejected (judging_by t own word) [] theirs) →
-    suggested (judging_by t own word) theirs ++ as_list (t.missing own theirs word) ≡ [] → Passes t own theirs word
+    suggested (judging_by t own word) theirs ++ option_to_list (t.missing own theirs word) ≡ [] → Passes t own theirs word
 passes_if t own word theirs h n = record {
-  good = all-good t own word [] theirs (sym h) (front-nil (suggested (judging_by t own word) theirs) (as_list (t.missing own theirs word)) n);
+  good = all-good t own word [] theirs (sym h) (front-nil (suggested (judging_by t own word) theirs) (option_to_list (t.missing own theirs word)) n);
   once = none-twice (judging_by t own word) [] theirs (sym h);
-  whole = missing-none (t.missing own theirs word) (back-nil (suggested (judging_by t own word) theirs) (as_list (t.missing own theirs word)) n);
+  whole = missing-none (t.missing own theirs word) (back-nil (suggested (judging_by t own word) theirs) (option_to_list (t.missing own theirs word)) n);
 }
 
 pub known_by : (t : Table) (sendable : List ConfigOption → Type 0) (unknown : ConfigOption → Type 0) (allows compat : List ConfigOption → List ConfigOption → Type 0) (l : Lawful t sendable unknown allows compat)
@@ -211,8 +241,23 @@ suggested_lawful t sendable unknown allows compat l own word theirs h = suggeste
 
 pub acked_short : (t : Table) (sendable : List ConfigOption → Type 0) (unknown : ConfigOption → Type 0) (allows compat : List ConfigOption → List ConfigOption → Type 0) → Lawful t sendable unknown allows compat →
     (own : List ConfigOption) (word : ℕ) (theirs : List ConfigOption) → sendable own → false ≡ has_options (rejected (judging_by t own word) [] theirs) →
-    suggested (judging_by t own word) theirs ++ as_list (t.missing own theirs word) ≡ [] → length (written theirs) ≤ 128
+    suggested (judging_by t own word) theirs ++ option_to_list (t.missing own theirs word) ≡ [] → length (written theirs) ≤ 128
 acked_short t sendable unknown allows compat l own word theirs s h n = l.allowed_short own theirs s ((l.allows_is own theirs word s).1 (passes_if t own word theirs h n))
+
+-- what answers a request that isn't rejected is short
+pub naked_short : (t : Table) (sendable : List ConfigOption → Type 0) (unknown : ConfigOption → Type 0) (allows compat : List ConfigOption → List ConfigOption → Type 0) → Lawful t sendable unknown allows compat →
+    (own : List ConfigOption) (word : ℕ) (theirs : List ConfigOption) → false ≡ has_options (rejected (judging_by t own word) [] theirs) →
+    length (written (suggested (judging_by t own word) theirs ++ option_to_list (t.missing own theirs word))) ≤ MOST_REST
+naked_short t sendable unknown allows compat l own word theirs h =
+    let few = suggested_lawful t sendable unknown allows compat l own word theirs h in
+    let more = one-short (t.missing own theirs word) (λ missed e. l.missing_short own theirs missed word e) in
+    let size = ap length (written-append (suggested (judging_by t own word) theirs) (option_to_list (t.missing own theirs word)))
+    ∙ length-append (written (suggested (judging_by t own word) theirs)) (written (option_to_list (t.missing own theirs word))) in
+    omega arith
+  where
+    one-short : (m : Option ConfigOption) → ((missed : ConfigOption) → m ≡ Some missed → length missed.body ≤ 32) → length (written (option_to_list m)) ≤ 34
+    one-short None h = omega arith
+    one-short (Some o) h = let s = h o refl in omega (arith, s, length-append o.body [])
 
 pub empty_list : (empty : Bool) (xs : List ℕ) (list : List ConfigOption) → xs ≡ written list → empty ≡ (length xs == 0) → empty ≡ true → list ≡ []
 empty_list empty xs [] e t h = refl
@@ -222,5 +267,18 @@ pub filled_list : (empty : Bool) (xs : List ℕ) (list : List ConfigOption) → 
 filled_list empty xs list e t h n = let no : false ≡ true = sym h ∙ (t ∙ ap (λ (ys : List ℕ). length ys == 0) (e ∙ ap written n)) in cc
 
 -- an answer that carries the octets of a list
-pub answered : (make : List ConfigOption → Packet) (octets : List ℕ) (list : List ConfigOption) (got want : Packet) → got ≡ make (list_of octets) → octets ≡ written list → want ≡ make list → got ≡ want
-answered make octets list got want g o w = g ∙ (ap (λ (xs : List ℕ). make (list_of xs)) o ∙ (ap make (list_of-written list) ∙ sym w))
+pub answered : (make : List ConfigOption → Packet) (octets : List ℕ) (list : List ConfigOption) (got : Packet) → got ≡ make (list_of octets) → octets ≡ written list → got ≡ make list
+answered make octets list got g o = g ∙ (ap (λ (xs : List ℕ). make (list_of xs)) o ∙ ap make (list_of-written list))
+
+-- what is kept where nothing is rejected: the suggestions and what is missing
+pub record IsKept (t : Table) (own : List ConfigOption) (word : ℕ) (theirs : List ConfigOption) (j : Judged) : Type 0 where
+  pub clean : rejected (judging_by t own word) [] theirs ≡ []
+  pub none : false ≡ has_options (rejected (judging_by t own word) [] theirs)
+  pub octets : j.front.octets.items ≡ written (suggested (judging_by t own word) theirs ++ option_to_list (t.missing own theirs word))
+
+pub kept_clean : (t : Table) (sendable : List ConfigOption → Type 0) (unknown : ConfigOption → Type 0) (allows compat : List ConfigOption → List ConfigOption → Type 0) → Lawful t sendable unknown allows compat →
+    (own : List ConfigOption) (word : ℕ) (theirs : List ConfigOption) (spent : Bool) (j : Judged) → AreSettled t own spent word theirs j → (j.refused || (j.bad && j.spent)) ≡ false → IsKept t own word theirs j
+kept_clean t sendable unknown allows compat l own word theirs spent j s r =
+    let clean = clean_settled spent (rejected (judging_by t own word) [] theirs) (suggested (judging_by t own word) theirs) (option_to_list (t.missing own theirs word)) (unacceptable (judging_by t own word) theirs) j s r in
+    let none : false ≡ has_options (rejected (judging_by t own word) [] theirs) = sym (ap has_options clean.none) in
+    record { clean = clean.none; none = none; octets = front_all j.front _ _ s.kept clean.all (naked_short t sendable unknown allows compat l own word theirs none) }

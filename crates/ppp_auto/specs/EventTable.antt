@@ -1,8 +1,11 @@
 -- The event table (RFC 1661 section 4.1): for each event and state the actions, in order, and the next state. A cell
 -- that the standard leaves empty, or holds impossible, has no action and keeps the state.
-use Rattle.std.specs.Prelude.{ℕ, ◌-◌, Bool, true, false, ◌||◌, if◌then◌else◌, List, [], ◌∷◌}
+use Rattle.std.specs.Prelude.{ℕ, ◌-◌, Bool, true, false, if◌then◌else◌, List, [], ◌∷◌}
+use Rattle.std.specs.List.{fold, list_any}
 use Rattle.ppp_auto.specs.declared.auto_state.AutoState.{AutoState}
 use Rattle.ppp_auto.specs.declared.auto_state.AutoState.TheVariants.{Initial, Starting, Closed, Stopped, Closing, Stopping, ReqSent, AckRcvd, AckSent, Opened}
+use Rattle.ppp_auto.specs.declared.event_table.Cell.{Cell as Kept}
+use Rattle.ppp_auto.specs.declared.event_table.TheConstants.{MAX_CONFIGURE, MAX_TERMINATE}
 use Rattle.ppp_auto.specs.declared.input.Input.{Input}
 use Rattle.ppp_auto.specs.declared.input.Input.TheVariants as on
 use Rattle.ppp_auto.specs.declared.action.Action.{Action}
@@ -12,11 +15,36 @@ pub record Cell : Type 0 where
   pub actions : List Action
   pub next : AutoState
 
+-- the cell that the code keeps
+abbrev pub cell_seen : Kept → Cell
+cell_seen c = record { actions = c.actions.now; next = c.next }
+
 abbrev pub goes : List Action → AutoState → Cell
 goes actions next = record { actions = actions; next = next }
 
 abbrev pub stays : AutoState → Cell
 stays s = goes [] s
+
+abbrev pub is_new_request : Action → Bool
+is_new_request SendConfigureRequest = true
+is_new_request a = false
+
+abbrev pub is_ack : Action → Bool
+is_ack SendConfigureAck = true
+is_ack a = false
+
+abbrev pub is_refusal : Action → Bool
+is_refusal SendConfigureNak = true
+is_refusal a = false
+
+abbrev pub is_termination : Action → Bool
+is_termination SendTerminateRequest = true
+is_termination a = false
+
+abbrev pub is_drawing : Action → Bool
+is_drawing SendTerminateRequest = true
+is_drawing SendCodeReject = true
+is_drawing a = false
 
 abbrev pub on_up : AutoState → Cell
 on_up Initial = goes [] Closed
@@ -175,65 +203,36 @@ cell_of on.ReceiveRejectCatastrophic s = on_rejected_badly s
 cell_of on.ReceiveEcho s = on_echo s
 
 -- whether a new Configure-Request is sent
-abbrev pub asks_in : Action → Bool
-asks_in SendConfigureRequest = true
-asks_in a = false
-
 abbrev pub asks : List Action → Bool
-asks [] = false
-asks (a ∷ as') = asks_in a || asks as'
+asks actions = list_any is_new_request actions
 
 -- whether a Configure-Ack is sent
-abbrev pub acks_in : Action → Bool
-acks_in SendConfigureAck = true
-acks_in a = false
-
 abbrev pub acks : List Action → Bool
-acks [] = false
-acks (a ∷ as') = acks_in a || acks as'
+acks actions = list_any is_ack actions
 
 -- whether a Configure-Nak or Configure-Reject is sent
-abbrev pub refuses_in : Action → Bool
-refuses_in SendConfigureNak = true
-refuses_in a = false
-
 abbrev pub refuses : List Action → Bool
-refuses [] = false
-refuses (a ∷ as') = refuses_in a || refuses as'
+refuses actions = list_any is_refusal actions
 
 -- whether a Terminate-Request is sent
-abbrev pub terminates_in : Action → Bool
-terminates_in SendTerminateRequest = true
-terminates_in a = false
-
 abbrev pub terminates : List Action → Bool
-terminates [] = false
-terminates (a ∷ as') = terminates_in a || terminates as'
+terminates actions = list_any is_termination actions
 
 -- whether the counter of the other packets is drawn from: for a Terminate-Request or a Code-Reject
-abbrev pub draws_in : Action → Bool
-draws_in SendTerminateRequest = true
-draws_in SendCodeReject = true
-draws_in a = false
-
 abbrev pub draws : List Action → Bool
-draws [] = false
-draws (a ∷ as') = draws_in a || draws as'
+draws actions = list_any is_drawing actions
 
--- Max-Configure and Max-Terminate (RFC 1661 section 4.6)
-abbrev pub max_configure : ℕ
-max_configure = 10
+-- The restart counter after an action: it begins at that many, and each request that is sent takes one off, and none
+-- below 0.
+abbrev pub restart_at : ℕ → ℕ → Action → ℕ
+restart_at most n InitializeRestartCount = most
+restart_at most n ZeroRestartCount = 0
+restart_at most n SendConfigureRequest = n - 1
+restart_at most n RepeatConfigureRequest = n - 1
+restart_at most n SendTerminateRequest = n - 1
+restart_at most n a = n
 
-abbrev pub max_terminate : ℕ
-max_terminate = 2
-
--- The restart counter after actions. It begins at Max-Terminate where a Terminate-Request follows, else at
--- Max-Configure; each request sent takes one off, and none below 0.
+-- the restart counter after a cell's actions: it begins at Max-Terminate where a Terminate-Request is among them, else
+-- at Max-Configure
 abbrev pub restart_after : List Action → ℕ → ℕ
-restart_after [] n = n
-restart_after (InitializeRestartCount ∷ as') n = restart_after as' (if terminates as' then max_terminate else max_configure)
-restart_after (ZeroRestartCount ∷ as') n = restart_after as' 0
-restart_after (SendConfigureRequest ∷ as') n = restart_after as' (n - 1)
-restart_after (RepeatConfigureRequest ∷ as') n = restart_after as' (n - 1)
-restart_after (SendTerminateRequest ∷ as') n = restart_after as' (n - 1)
-restart_after (a ∷ as') n = restart_after as' n
+restart_after actions n = fold (restart_at (if terminates actions then MAX_TERMINATE else MAX_CONFIGURE)) n actions

@@ -1,6 +1,8 @@
 -- Packets of the automaton (RFC 1661 section 5): codes 1 to 4 carry options, the others octets.
 use Rattle.std.specs.Prelude.{ℕ, ◌==◌, if◌then◌else◌, List, Option, Some}
 use Rattle.std.specs.Option.{option_map, option_and_then}
+use Rattle.ppp_packet.specs.declared.code.Code.TheVariants.{ConfigureRequest, ConfigureAck, ConfigureNak, ConfigureReject}
+use Rattle.ppp_packet.specs.Code.{code_number}
 use Rattle.ppp_packet.specs.ConfigOption.{ConfigOption}
 use Rattle.ppp_packet.specs.Options.{written, options_of}
 use Rattle.ppp_packet.specs.Packet.{RawPacket, raw_packet_of, packet_octets}
@@ -14,19 +16,19 @@ pub data Packet : Type 0 where
 
 -- a packet in octets, without padding
 abbrev pub octets_of : Packet → List ℕ
-octets_of (Request id options) = packet_octets 1 id (written options)
-octets_of (Ack id options) = packet_octets 2 id (written options)
-octets_of (Nak id options) = packet_octets 3 id (written options)
-octets_of (Reject id options) = packet_octets 4 id (written options)
+octets_of (Request id options) = packet_octets (code_number ConfigureRequest) id (written options)
+octets_of (Ack id options) = packet_octets (code_number ConfigureAck) id (written options)
+octets_of (Nak id options) = packet_octets (code_number ConfigureNak) id (written options)
+octets_of (Reject id options) = packet_octets (code_number ConfigureReject) id (written options)
 octets_of (Other code id octets) = packet_octets code id octets
 
 -- the packet of a header and what follows it: None where the options of codes 1 to 4 can't be read
 abbrev pub packet_with : RawPacket → Option Packet
 packet_with raw =
-    if raw.code == 1 then option_map (λ options. Request raw.id options) (options_of raw.rest)
-    else if raw.code == 2 then option_map (λ options. Ack raw.id options) (options_of raw.rest)
-    else if raw.code == 3 then option_map (λ options. Nak raw.id options) (options_of raw.rest)
-    else if raw.code == 4 then option_map (λ options. Reject raw.id options) (options_of raw.rest)
+    if raw.code == code_number ConfigureRequest then option_map (λ options. Request raw.id options) (options_of raw.rest)
+    else if raw.code == code_number ConfigureAck then option_map (λ options. Ack raw.id options) (options_of raw.rest)
+    else if raw.code == code_number ConfigureNak then option_map (λ options. Nak raw.id options) (options_of raw.rest)
+    else if raw.code == code_number ConfigureReject then option_map (λ options. Reject raw.id options) (options_of raw.rest)
     else Some (Other raw.code raw.id raw.rest)
 
 -- the packet that octets are: None where they can't be read

@@ -1,12 +1,16 @@
 -- How a Configure-Request is answered (RFC 1661 sections 5.2 to 5.4), against the own list.
-use Rattle.std.specs.Prelude.{ℕ, ◌+◌, ◌-◌, Bool, true, false, ◌&&◌, ◌||◌, ◌==◌, nat_lt, nat_le, if◌then◌else◌, List, [], ◌∷◌, ◌++◌, length, Option, Some, None}
-use Rattle.std.specs.List.{list_any}
+use Rattle.std.specs.Prelude.{ℕ, ◌+◌, ◌-◌, Bool, true, false, ◌&&◌, ◌||◌, ◌==◌, nat_lt, nat_le, if◌then◌else◌, List, [], ◌∷◌, ◌++◌, length}
+use Rattle.std.specs.List.{flat_map, list_any}
+use Rattle.std.specs.Option.{option_to_list}
 use Rattle.std.specs.Str.{bytes_eq}
 use Rattle.ppp_packet.specs.ConfigOption.{ConfigOption}
 use Rattle.ppp_auto.specs.declared.verdict.Verdict.{Verdict}
 use Rattle.ppp_auto.specs.declared.verdict.Verdict.TheVariants.{Good, Bad, Unknown}
 use Rattle.ppp_auto.specs.declared.input.Input.{Input}
 use Rattle.ppp_auto.specs.declared.input.Input.TheVariants.{ReceiveConfigureRequestGood, ReceiveConfigureRequestBad}
+use Rattle.ppp_auto.specs.declared.outbox.TheConstants.{MOST_REST}
+use Rattle.ppp_auto.specs.declared.reply.Reply.{Reply as Kept}
+use Rattle.ppp_auto.specs.declared.reply.TheConstants.{MAX_FAILURE}
 use Rattle.ppp_auto.specs.Packet.{Packet, Ack, Nak, Reject}
 use Rattle.ppp_auto.specs.OptionTable.{Table}
 
@@ -43,34 +47,32 @@ bad_of o verdict = []
 
 -- the suggestions for the bad options, in order
 abbrev pub suggested : (ConfigOption → Verdict) → List ConfigOption → List ConfigOption
-suggested judge [] = []
-suggested judge (o ∷ os) = better_of (judge o) ++ suggested judge os
+suggested judge list = flat_map (λ o. better_of (judge o)) list
 
 -- the bad options as they came, in order
 abbrev pub unacceptable : (ConfigOption → Verdict) → List ConfigOption → List ConfigOption
-unacceptable judge [] = []
-unacceptable judge (o ∷ os) = bad_of o (judge o) ++ unacceptable judge os
-
-abbrev pub as_list : Option ConfigOption → List ConfigOption
-as_list None = []
-as_list (Some o) = o ∷ []
+unacceptable judge list = flat_map (λ o. bad_of o (judge o)) list
 
 -- the longest front of the options that has at most that many octets
 abbrev pub fitting : ℕ → List ConfigOption → List ConfigOption
 fitting room [] = []
 fitting room (o ∷ os) = if nat_lt room (2 + length o.body) then [] else o ∷ fitting (room - (2 + length o.body)) os
 
--- the options of a Configure-Reject of at most 1,500 octets
-abbrev pub reject_room : ℕ
-reject_room = 1496
-
--- Max-Failure (RFC 1661 section 4.6)
-abbrev pub max_failure : ℕ
-max_failure = 5
+-- as many of the options as a packet can carry
+abbrev pub fitted : List ConfigOption → List ConfigOption
+fitted list = fitting MOST_REST list
 
 pub record Reply : Type 0 where
   pub input : Input
   pub answer : Packet
+
+-- the reply that the code keeps
+abbrev pub reply_seen : Kept → Reply
+reply_seen r = record { input = r.input; answer = r.answer }
+
+-- whether Configure-Naks are spent
+abbrev pub is_spent : ℕ → Bool
+is_spent naks = nat_le MAX_FAILURE naks
 
 abbrev pub refusing : Packet → Reply
 refusing answer = record { input = ReceiveConfigureRequestBad; answer = answer }
@@ -81,20 +83,20 @@ abbrev pub reply_to_known : ℕ → ℕ → List ConfigOption → List ConfigOpt
 reply_to_known naks id theirs [] [] bad = record { input = ReceiveConfigureRequestGood; answer = Ack id theirs }
 reply_to_known naks id theirs [] (o ∷ missing) bad = refusing (Nak id (o ∷ missing))
 reply_to_known naks id theirs (o ∷ better) missing bad =
-    if nat_le max_failure naks
-    then refusing (Reject id (fitting reject_room bad))
+    if is_spent naks
+    then refusing (Reject id (fitted bad))
     else refusing (Nak id ((o ∷ better) ++ missing))
 
 -- What is rejected comes first.
 abbrev pub reply_with : ℕ → ℕ → List ConfigOption → List ConfigOption → List ConfigOption → List ConfigOption → List ConfigOption → Reply
 reply_with naks id theirs [] better missing bad = reply_to_known naks id theirs better missing bad
-reply_with naks id theirs (o ∷ refused) better missing bad = refusing (Reject id (fitting reject_room (o ∷ refused)))
+reply_with naks id theirs (o ∷ refused) better missing bad = refusing (Reject id (fitted (o ∷ refused)))
 
 -- The answer to a request of these options, after that many Naks, judged against the own list.
 abbrev pub reply_to : Table → List ConfigOption → ℕ → ℕ → ℕ → List ConfigOption → Reply
 reply_to t own naks word id theirs =
     let judge : ConfigOption → Verdict = λ o. t.judge own o word in
-    reply_with naks id theirs (rejected judge [] theirs) (suggested judge theirs) (as_list (t.missing own theirs word)) (unacceptable judge theirs)
+    reply_with naks id theirs (rejected judge [] theirs) (suggested judge theirs) (option_to_list (t.missing own theirs word)) (unacceptable judge theirs)
 
 -- whether the first list is a sublist of the second: the same options, in order, and others may be left out
 abbrev pub is_sublist : List ConfigOption → List ConfigOption → Bool
@@ -111,3 +113,8 @@ same_list as' bs = false
 abbrev pub has_options : List ConfigOption → Bool
 has_options [] = false
 has_options (o ∷ os) = true
+
+-- a list without its first option, where that is this one
+abbrev pub after_one : List ConfigOption → ConfigOption → List ConfigOption
+after_one [] o = []
+after_one (x ∷ xs) o = if same_option x o then xs else x ∷ xs

@@ -4,18 +4,19 @@
 
 mod action;
 mod answer;
+mod auto;
 mod auto_event;
 mod auto_state;
 mod automaton;
-mod code;
-mod end;
 mod event_table;
+mod front;
 mod input;
-mod judging;
+mod judged;
 mod layer_signal;
 mod option_table;
 mod outbox;
-mod receive;
+mod reply;
+mod taken;
 #[cfg(test)]
 mod tests;
 mod verdict;

@@ -1,6 +1,6 @@
 //! What a protocol negotiates.
 
-ghost use Rattle.std.specs.Prelude.{◌≡◌, Bool, List};
+ghost use Rattle.std.specs.Prelude.{◌≡◌, ℕ, Bool, List};
 ghost use Rattle.ppp_packet.specs.ConfigOption.{ConfigOption};
 ghost use Rattle.ppp_packet.specs.OptRef.{option_seen};
 ghost use Rattle.ppp_auto.specs.Lawful.{Lawful};
@@ -17,6 +17,8 @@ pub trait OptionTable {
 
     /// Whether codes 8 to 11 are known (RFC 1661 sections 5.7 to 5.9), which is so of LCP alone.
     const EXTENDED: bool;
+
+    ghost PROTOCOL: { ℕ };
 
     ghost EXTENDED: { Bool };
 

@@ -2,20 +2,31 @@
 
 ghost use Rattle.std.specs.Prelude.{◌≡◌, ◌+◌, ◌<◌, ◌≤◌, [], ◌∷◌, ◌++◌, length, vec_len, vec_capacity, map, take, drop, ◌-◌, IfOk, Some, slice_get};
 ghost use Rattle.ppp_packet.specs.Packet.{packet_octets};
-ghost use Rattle.ppp_auto.specs.Entries.{entry_lent, entry_kept, AreWithin, IsShort};
+ghost use Rattle.ppp_auto.specs.Outbox.{entry_seen, slot_seen, AreWithin, IsShort};
+ghost use Rattle.ppp_packet.specs.Code.{code_number};
+ghost use Rattle.ppp_auto.specs.declared.outbox.TheConstants.{MOST_REST};
+ghost use Rattle.ppp_auto.specs.declared.taken.TheConstants.{HEADER};
 
 use crate::layer_signal::LayerSignal;
+use crate::taken::HEADER;
 use arrayvec::ArrayVec;
+use byteorder::{BigEndian, ByteOrder};
 use ppp_memory::Memory;
-use ppp_packet::write_packet;
+use ppp_packet::Code;
 use std::alloc::Global;
 use std::marker::Model;
 
 /// The most octets that a packet in an outbox has.
-const MOST_OCTETS: usize = 1500;
+pub(crate) const MOST_OCTETS: usize = 1500;
+
+/// The most octets that a packet in an outbox has behind its header.
+pub(crate) const MOST_REST: usize = MOST_OCTETS - HEADER;
 
 /// The octets that an outbox holds: four packets.
-const CAPACITY: usize = 6000;
+pub(crate) const CAPACITY: usize = SLOTS * MOST_OCTETS;
+
+/// The most entries that an outbox has.
+pub(crate) const SLOTS: usize = 4;
 
 /// An entry of an outbox: a whole packet to send, or a signal to the layers beside.
 #[derive(Clone, Copy)]
@@ -43,25 +54,24 @@ impl Default for Slot {
 #[derive(Drop)]
 pub struct Outbox {
     octets: Vec<u8>,
-    slots: ArrayVec<Slot, 4>,
+    slots: ArrayVec<Slot, SLOTS>,
 }
 
 impl Model for Outbox {
     ghost use Rattle.std.specs.Prelude.{List};
-    ghost use Rattle.ppp_auto.specs.Automaton.{Entry};
+    ghost use Rattle.ppp_auto.specs.Outbox.{Entry};
 
     ghost Value = { List Entry };
 
-    ghost use Rattle.ppp_auto.specs.Kept.{entries_kept, IsOutbox};
+    ghost use Rattle.ppp_auto.specs.Outbox.{outbox_seen, IsOutbox};
 
-    ghost view = { entries_kept };
+    ghost view = { outbox_seen };
 
     ghost invariant = { IsOutbox };
 }
 
 impl Outbox {
-    ghost use Rattle.ppp_auto.specs.Automaton.{Send, Signal};
-    ghost use Rattle.ppp_auto.specs.Entries.{entry_lent, IsShort};
+    ghost use Rattle.ppp_auto.specs.Outbox.{Send, Signal, entry_seen, IsShort};
 
     /// An outbox with no entry. It takes the memory for all that is put into it later.
     pub fn new(alloc: Global) -> Result<Outbox, Memory>
@@ -87,14 +97,14 @@ impl Outbox {
     /// The entry at place `i`, from 0 on.
     pub fn at(&self, i: usize) -> EntryRef<'_>
         requires { i < length self.now }
-        ensures entry { slice_get self.now i ≡ Some (entry_lent result) }
-        ensures short { IsShort (entry_lent result) }
+        ensures entry { slice_get self.now i ≡ Some (entry_seen result) }
+        ensures short { IsShort (entry_seen result) }
     {
         lend(self.octets.as_slice(), self.slots.as_slice(), i)
     }
 
     /// Takes all entries out.
-    pub(crate) fn clear(&mut self)
+    pub fn clear(&mut self)
         ensures { self.new ≡ [] }
     {
         self.octets.clear();
@@ -110,10 +120,10 @@ impl Outbox {
     }
 
     /// Puts a packet at the end.
-    pub(crate) fn send(&mut self, code: u8, id: u8, rest: &[u8])
+    pub(crate) fn send(&mut self, code: Code, id: u8, rest: &[u8])
         requires few { length self.old < 4 }
-        requires size { length rest.now ≤ 1496 }
-        ensures { self.new ≡ self.old ++ Send (packet_octets code id rest.now) ∷ [] }
+        requires size { length rest.now ≤ MOST_REST }
+        ensures { self.new ≡ self.old ++ Send (packet_octets (code_number code) id rest.now) ∷ [] }
     {
         let start = self.octets.len();
         put_packet(&mut self.octets, code, id, rest);
@@ -122,24 +132,25 @@ impl Outbox {
 }
 
 /// Puts the octets of a packet behind others, for which room was taken.
-fn put_packet(octets: &mut Vec<u8>, code: u8, id: u8, rest: &[u8])
-    requires size { length rest.now ≤ 1496 }
-    requires room { vec_len octets.old + (4 + length rest.now) ≤ vec_capacity octets.old }
-    ensures octets { octets.new.items ≡ octets.old.items ++ packet_octets code id rest.now }
-    ensures size { vec_len octets.new ≡ vec_len octets.old + (4 + length rest.now) }
+fn put_packet(octets: &mut Vec<u8>, code: Code, id: u8, rest: &[u8])
+    requires size { length rest.now ≤ MOST_REST }
+    requires room { vec_len octets.old + (HEADER + length rest.now) ≤ vec_capacity octets.old }
+    ensures octets { octets.new.items ≡ octets.old.items ++ packet_octets (code_number code) id rest.now }
+    ensures size { vec_len octets.new ≡ vec_len octets.old + (HEADER + length rest.now) }
     ensures capacity { vec_capacity octets.old ≤ vec_capacity octets.new }
 {
-    let mut buffer = [0; MOST_OCTETS];
-    let size = write_packet(&mut buffer, code, id, rest);
-    octets.extend_from_slice(&buffer[..size]).unwrap();
+    let mut header = [code.number(), id, 0, 0];
+    BigEndian::write_u16(&mut header[2..], (HEADER + rest.len()) as u16);
+    octets.extend_from_slice(&header).unwrap();
+    octets.extend_from_slice(rest).unwrap();
 }
 
 /// The entry of the slot at place `i`.
 fn lend<'a>(octets: &'a [u8], slots: &[Slot], i: usize) -> EntryRef<'a>
     requires place { i < length slots.now }
     requires within { AreWithin octets.now slots.now }
-    ensures entry { slice_get (map (entry_kept octets.now) slots.now) i ≡ Some (entry_lent result) }
-    ensures short { IsShort (entry_lent result) }
+    ensures entry { slice_get (map (slot_seen octets.now) slots.now) i ≡ Some (entry_seen result) }
+    ensures short { IsShort (entry_seen result) }
 {
     match slots[i] {
         Slot::Packet(start, end) => EntryRef::Send(part(octets, start, end)),

@@ -1,7 +1,8 @@
 //! The automaton over a table that knows no option.
 
 ghost use Rattle.std.specs.Prelude.{true, refl};
-ghost use Rattle.ppp_auto.specs.Bare.{bare, bare_lawful, AllowsBare, FitsAny, IsAny, IsBare};
+ghost use Rattle.ppp_auto.specs.BareTable.{bare, AllowsBare, FitsAny, IsAny, IsBare};
+ghost use Rattle.ppp_auto.specs.BareTableLaw.{bare_lawful};
 
 use super::{AutoEvent, AutoState, Automaton, EntryRef, OptionTable, Outbox, Verdict};
 use ppp_packet::{Opt, OptList, OptRef, Options};
@@ -15,6 +16,8 @@ impl OptionTable for Bare {
     const PROTOCOL: u16 = 0xc021;
 
     const EXTENDED: bool = true;
+
+    ghost PROTOCOL = { 49185 };
 
     ghost EXTENDED = { true };
 

@@ -6,8 +6,8 @@ use Rattle.ppp_auto.specs.declared.input.Input.{Input}
 use Rattle.ppp_auto.specs.declared.input.Input.TheVariants.{Down, ReceiveConfigureRequestGood, ReceiveConfigureRequestBad, ReceiveConfigureAck}
 use Rattle.ppp_auto.specs.declared.action.Action.{Action}
 use Rattle.ppp_auto.specs.declared.action.Action.TheVariants.{SendConfigureAck, SendConfigureNak, SendEchoReply}
-use Rattle.ppp_auto.specs.Automaton.{is_heard, has_acked, is_idle, is_opened, is_stopped, begins_anew}
-use Rattle.ppp_duet.specs.Duet.{is_off}
+use Rattle.ppp_auto.specs.Auto.{is_heard, has_acked, is_idle, is_opened, is_stopped, begins_anew}
+use Rattle.ppp_auto.specs.Auto.{is_off}
 use Rattle.ppp_duet.specs.Reopening.{is_low}
 use Rattle.ppp_auto.specs.EventTable.{cell_of, asks, acks}
 

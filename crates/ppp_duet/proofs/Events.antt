@@ -4,11 +4,14 @@ use Rattle.std.specs.List.{AllByRecursion}
 use Rattle.ppp_packet.specs.ConfigOption.{ConfigOption}
 use Rattle.ppp_auto.specs.declared.auto_event.AutoEvent.{AutoEvent}
 use Rattle.ppp_auto.specs.declared.input.Input.TheVariants.{Down}
-use Rattle.ppp_auto.specs.Automaton.{taken_as, input_of, is_heard, has_acked, does_row}
+use Rattle.ppp_auto.specs.Taken.{taken_as, input_of}
+use Rattle.ppp_auto.specs.Auto.{is_heard, has_acked}
+use Rattle.ppp_auto.specs.Automaton.{does_row}
 use Rattle.ppp_auto.specs.Packet.{Packet, Request, Ack, Nak, Reject, Other}
 use Rattle.ppp_packet.specs.declared.code.Code.TheVariants.{ProtocolReject}
 use Rattle.ppp_packet.specs.Code.{code_number}
-use Rattle.ppp_duet.specs.Duet.{End, Marked, Duet, Side, A, B, Happening, Commands, SetsCap, RejectsProtocol, Delivers, Loses, Reboots, Event, does, takes, got_after, is_off, without, turned, end_begun, start, delivers, commands, reboots, at_first, at_side, happens, run}
+use Rattle.ppp_duet.specs.Duet.{End, Marked, Duet, Side, A, B, Happening, Commands, SetsCap, RejectsProtocol, Delivers, Loses, Reboots, Event, does, takes, got_after, without, turned, end_begun, start, delivers, commands, reboots, at_first, at_side, happens, run}
+use Rattle.ppp_auto.specs.Auto.{is_off}
 use Rattle.ppp_duet.specs.NarrowRun.{NarrowIfTaken, IsNarrowWhereTaken}
 use Rattle.ppp_duet.specs.Span.{request_mark, answer_mark, requests, answers, span_of, widest}
 use Rattle.ppp_duet.specs.Terms.{Terms}

@@ -1,7 +1,7 @@
 -- What holds of two ends in every state of a run.
 use Rattle.std.proofs.Common.{◌≡◌, ℕ, ◌+◌, ◌%◌, ◌≤◌, ◌⊎◌, true, List, Some}
 use Rattle.std.specs.List.{AllByRecursion}
-use Rattle.ppp_auto.specs.Automaton.{is_heard, has_acked}
+use Rattle.ppp_auto.specs.Auto.{is_heard, has_acked}
 use Rattle.ppp_duet.specs.Duet.{End, Marked, Duet}
 use Rattle.ppp_duet.specs.Span.{requests, answers}
 use Rattle.ppp_duet.specs.Terms.{Terms}

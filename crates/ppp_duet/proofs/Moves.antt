@@ -1,7 +1,7 @@
 -- What a row comes to at one end, and that it keeps the invariant: nothing is said here of tables, packets or rows.
 use Rattle.std.proofs.Common.{◌≡◌, ℕ, ◌+◌, ◌%◌, ◌≤◌, ◌<◌, ◌⊎◌, inl, inr, true, false, List, ◌++◌, sym, ◌∙◌, arith}
 use Rattle.std.specs.List.{AllByRecursion}
-use Rattle.ppp_auto.specs.Automaton.{is_heard, has_acked, is_opened}
+use Rattle.ppp_auto.specs.Auto.{is_heard, has_acked, is_opened}
 use Rattle.ppp_duet.specs.Duet.{End, Marked}
 use Rattle.ppp_duet.specs.Reopening.{is_low}
 use Rattle.ppp_duet.specs.Span.{requests, answers}

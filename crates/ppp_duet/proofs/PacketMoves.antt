@@ -3,7 +3,8 @@ use Rattle.std.proofs.Common.{◌≡◌, ℕ, ◌+◌, ◌≤◌, List, ◌∷�
 use Rattle.ppp_packet.specs.ConfigOption.{ConfigOption}
 use Rattle.ppp_auto.specs.declared.auto_event.AutoEvent.{AutoEvent}
 use Rattle.ppp_auto.specs.declared.input.Input.{Input}
-use Rattle.ppp_auto.specs.Automaton.{last_id, Taken, taken_as, input_of, is_stopped, judging, is_nak_of, is_reject_of, kind}
+use Rattle.ppp_auto.specs.Auto.{last_id, is_stopped}
+use Rattle.ppp_auto.specs.Taken.{Taken, taken_as, input_of, judging, is_nak_of, is_reject_of, kind}
 use Rattle.ppp_auto.specs.Packet.{Packet, Request, Ack, Nak, Reject, Other}
 use Rattle.ppp_duet.specs.Duet.{End, Marked, Setup, does, does_if, takes, got_after}
 use Rattle.ppp_duet.specs.Span.{span_of, widest, requests}

@@ -3,7 +3,10 @@ use Rattle.std.proofs.Common.{◌≡◌, ℕ, true, List, [], ◌∷◌, ◌++�
 use Rattle.std.specs.List.{AllByRecursion}
 use Rattle.ppp_auto.specs.declared.action.Action.{Action}
 use Rattle.ppp_auto.specs.declared.action.Action.TheVariants.{ThisLayerUp, ThisLayerDown, ThisLayerStarted, ThisLayerFinished, InitializeRestartCount, ZeroRestartCount, SendConfigureRequest, RepeatConfigureRequest, SendConfigureAck, SendConfigureNak, SendTerminateRequest, SendTerminateAck, SendCodeReject, SendEchoReply}
-use Rattle.ppp_auto.specs.Automaton.{Auto, last_id, Taken, Effect, answering, effects}
+use Rattle.ppp_auto.specs.Auto.{Auto, last_id}
+use Rattle.ppp_auto.specs.Taken.{Taken}
+use Rattle.ppp_auto.specs.Outbox.{Effect}
+use Rattle.ppp_auto.specs.Automaton.{answering, effects}
 use Rattle.ppp_auto.specs.Packet.{Packet, Request, Other}
 use Rattle.ppp_duet.specs.Duet.{Marked, marked}
 use Rattle.ppp_duet.specs.Span.{requests, answers}

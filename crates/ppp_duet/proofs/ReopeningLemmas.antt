@@ -3,7 +3,7 @@ use Rattle.std.proofs.Common.{◌≡◌, inl, inr, ⊎_elim, true, false, List, 
 use Rattle.ppp_packet.specs.ConfigOption.{ConfigOption}
 use Rattle.ppp_auto.specs.declared.auto_state.AutoState.{AutoState}
 use Rattle.ppp_auto.specs.declared.auto_state.AutoState.TheVariants.{Opened}
-use Rattle.ppp_auto.specs.Automaton.{is_opened}
+use Rattle.ppp_auto.specs.Auto.{is_opened}
 use Rattle.ppp_duet.specs.Duet.{Duet, Side, A, B, Event, happens, run, start}
 use Rattle.ppp_duet.specs.NarrowRun.{NarrowIfTaken, IsNarrowRun, IsNarrowWhereTaken}
 use Rattle.ppp_duet.specs.Reopening.{end_at, end_beyond, IsOpenedAt, IsOpenedBeyond, StaysOut, IsOnceOut, Away, Waits}

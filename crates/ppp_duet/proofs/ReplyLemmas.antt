@@ -5,7 +5,8 @@ use Rattle.ppp_packet.specs.ConfigOption.{ConfigOption}
 use Rattle.ppp_auto.specs.declared.verdict.Verdict.{Verdict}
 use Rattle.ppp_auto.specs.declared.verdict.Verdict.TheVariants.{Good, Bad, Unknown}
 use Rattle.ppp_auto.specs.declared.input.Input.TheVariants.{ReceiveConfigureRequestGood}
-use Rattle.ppp_auto.specs.Reply.{has_kind, is_refused, rejected, better_of, suggested, as_list, unacceptable, reply_with, reply_to}
+use Rattle.ppp_auto.specs.Reply.{has_kind, is_refused, rejected, better_of, suggested, unacceptable, reply_with, reply_to}
+use Rattle.std.specs.Option.{option_to_list}
 use Rattle.ppp_auto.specs.Lawful.{AllGood, NoneTwice, Passes}
 use Rattle.ppp_auto.specs.OptionTable.{Table}
 
@@ -38,7 +39,7 @@ clean t own word earlier (o ∷ os) r s =
     let rest = clean t own word (earlier ++ o ∷ []) os first.1 good.1 in
     record { good = (good.0, rest.good); once = (fine.0, rest.once) }
 
-none_listed : (o : Option ConfigOption) → as_list o ≡ [] → o ≡ None
+none_listed : (o : Option ConfigOption) → option_to_list o ≡ [] → o ≡ None
 none_listed None e = refl
 none_listed (Some o) e = cc
 
@@ -61,7 +62,7 @@ accepted_passes t own naks word id theirs e =
     let judge : ConfigOption → Verdict = λ o. t.judge own o word in
     let refused = rejected judge [] theirs in
     let better = suggested judge theirs in
-    let missing = as_list (t.missing own theirs word) in
+    let missing = option_to_list (t.missing own theirs word) in
     let bad = unacceptable judge theirs in
     let fine = clean t own word [] theirs (none_refused naks id theirs refused better missing bad e) (none_better naks id theirs refused better missing bad e) in
     record { good = fine.good; once = fine.once; whole = none_listed (t.missing own theirs word) (none_missing naks id theirs refused better missing bad e) }

@@ -4,9 +4,12 @@ use Rattle.std.specs.List.{AllByRecursion}
 use Rattle.ppp_packet.specs.ConfigOption.{ConfigOption}
 use Rattle.ppp_auto.specs.declared.input.Input.{Input}
 use Rattle.ppp_auto.specs.declared.input.Input.TheVariants.{ReceiveConfigureRequestGood, ReceiveConfigureAck}
-use Rattle.ppp_auto.specs.Automaton.{Taken, is_heard, has_acked, is_idle, begins_anew, judging, does_row, after}
+use Rattle.ppp_auto.specs.Taken.{Taken, judging}
+use Rattle.ppp_auto.specs.Auto.{is_heard, has_acked, is_idle, begins_anew}
+use Rattle.ppp_auto.specs.Automaton.{does_row, after}
 use Rattle.ppp_auto.specs.EventTable.{cell_of, asks, acks}
-use Rattle.ppp_duet.specs.Duet.{End, does, is_off, Marked}
+use Rattle.ppp_duet.specs.Duet.{End, does, Marked}
+use Rattle.ppp_auto.specs.Auto.{is_off}
 use Rattle.ppp_duet.specs.Terms.{Terms}
 use Rattle.ppp_duet.proofs.EventTableLemmas.{is_request, heard_asks_nothing, heard_from, acked_from, acks_good, acks_unasked, acks_anew, answers_on, low_stays, opened_left, request_ends}
 use Rattle.ppp_duet.proofs.Identifiers.{next_is}

@@ -2,7 +2,8 @@
 use Rattle.std.proofs.Common.{◌≡◌, ℕ, ◌+◌, ◌-◌, ◌≤◌, min, List, [], ◌∷◌, ◌++◌, take, Option, Some, None, refl, arith}
 use Rattle.std.specs.List.{AllByRecursion}
 use Rattle.ppp_auto.specs.declared.input.Input.{Input}
-use Rattle.ppp_auto.specs.Automaton.{Taken, taken_as, input_of, kind, does_row, after}
+use Rattle.ppp_auto.specs.Taken.{Taken, taken_as, input_of, kind}
+use Rattle.ppp_auto.specs.Automaton.{does_row, after}
 use Rattle.ppp_auto.specs.EventTable.{cell_of}
 use Rattle.ppp_auto.specs.Packet.{Packet, Other}
 use Rattle.ppp_packet.specs.declared.code.Code.TheVariants.{ProtocolReject}

@@ -7,7 +7,8 @@ use Rattle.ppp_auto.specs.declared.auto_state.AutoState.TheVariants.{ReqSent, Ac
 use Rattle.ppp_auto.specs.declared.auto_event.AutoEvent.TheVariants.{Up, Down, AdminOpen, Timeout}
 use Rattle.ppp_auto.specs.declared.verdict.Verdict.{Verdict}
 use Rattle.ppp_auto.specs.declared.verdict.Verdict.TheVariants.{Good, Bad, Unknown}
-use Rattle.ppp_auto.specs.Automaton.{four_octets, does_row}
+use Rattle.ppp_auto.specs.Taken.{four_octets}
+use Rattle.ppp_auto.specs.Automaton.{does_row}
 use Rattle.ppp_duet.specs.Duet.{Duet, Setup, Side, A, B, Happening, Commands, Delivers, Event, at_first, does, takes, start, run}
 use Rattle.ppp_duet.specs.Span.{span_of, Narrow}
 use Rattle.ppp_auto.specs.Reply.{same_option}

@@ -5,12 +5,14 @@ use Rattle.ppp_packet.specs.ConfigOption.{ConfigOption}
 use Rattle.ppp_auto.specs.declared.auto_event.AutoEvent.{AutoEvent}
 use Rattle.ppp_auto.specs.declared.input.Input.{Input}
 use Rattle.ppp_auto.specs.declared.input.Input.TheVariants.{ReceiveConfigureRequestGood, ReceiveConfigureAck}
-use Rattle.ppp_auto.specs.Automaton.{Auto, last_id, is_idle, input_of, nak_taken, judging, kind}
+use Rattle.ppp_auto.specs.Auto.{Auto, last_id, is_idle}
+use Rattle.ppp_auto.specs.Taken.{input_of, nak_taken, judging, kind}
 use Rattle.ppp_auto.specs.Lawful.{Passes}
 use Rattle.ppp_auto.specs.OptionTable.{Table}
 use Rattle.ppp_auto.specs.Packet.{Packet, Other}
 use Rattle.ppp_auto.specs.Reply.{reply_to}
-use Rattle.ppp_duet.specs.Duet.{End, got_after, is_off}
+use Rattle.ppp_duet.specs.Duet.{End, got_after}
+use Rattle.ppp_auto.specs.Auto.{is_off}
 use Rattle.ppp_duet.proofs.EventTableLemmas.{is_request}
 use Rattle.ppp_duet.proofs.Packets.{RepliesIf}
 use Rattle.ppp_duet.proofs.Queues.{request_id, ack_id, answer_id, options_in}

@@ -1,6 +1,6 @@
 -- What one event means for an end that has left Opened and may enter it again.
 use Rattle.std.proofs.Common.{◌≡◌, ◌≤◌, ◌⊎◌, inl, inr, true, false, List, arith}
-use Rattle.ppp_auto.specs.Automaton.{is_heard, is_opened}
+use Rattle.ppp_auto.specs.Auto.{is_heard, is_opened}
 use Rattle.ppp_duet.specs.Duet.{End, Marked}
 use Rattle.ppp_duet.specs.Terms.{Terms}
 use Rattle.ppp_duet.specs.Reopening.{is_low}

@@ -1,15 +1,16 @@
 -- Two ends with tables of one type, and a queue of packets to each: one protocol on one link. Each Configure-Request
 -- in a queue carries its ordinal as a mark, each answer to it the same mark. No end reads a mark.
-use Rattle.std.specs.Prelude.{ℕ, zero, suc, ◌+◌, Bool, true, false, if◌then◌else◌, List, [], ◌∷◌, ◌++◌, Option, Some, None}
+use Rattle.std.specs.Prelude.{ℕ, zero, suc, ◌+◌, if◌then◌else◌, List, [], ◌∷◌, ◌++◌, Option, Some, None}
 use Rattle.ppp_packet.specs.declared.code.Code.TheVariants.{ProtocolReject}
 use Rattle.ppp_packet.specs.Code.{code_number}
 use Rattle.ppp_packet.specs.ConfigOption.{ConfigOption}
-use Rattle.ppp_auto.specs.declared.auto_state.AutoState.{AutoState}
-use Rattle.ppp_auto.specs.declared.auto_state.AutoState.TheVariants.{Initial, Starting}
 use Rattle.ppp_auto.specs.declared.auto_event.AutoEvent.{AutoEvent}
 use Rattle.ppp_auto.specs.declared.input.Input.{Input}
 use Rattle.ppp_auto.specs.declared.input.Input.TheVariants.{Down}
-use Rattle.ppp_auto.specs.Automaton.{Auto, begun, Taken, taken_as, kind, input_of, judging, does_row, Effect, Sends, Tells}
+use Rattle.ppp_auto.specs.Auto.{Auto, begun, is_off}
+use Rattle.ppp_auto.specs.Taken.{Taken, taken_as, kind, input_of, judging}
+use Rattle.ppp_auto.specs.Automaton.{does_row}
+use Rattle.ppp_auto.specs.Outbox.{Effect, Sends, Tells}
 use Rattle.ppp_auto.specs.Packet.{Packet, Request, Other}
 use Rattle.ppp_auto.specs.EventTable.{cell_of, asks, acks}
 use Rattle.ppp_auto.specs.OptionTable.{Table}
@@ -102,11 +103,6 @@ does s e input taken mark word =
       };
       sent = marked n mark acted.effects;
     }
-
-abbrev pub is_off : AutoState → Bool
-is_off Initial = true
-is_off Starting = true
-is_off s = false
 
 -- the ordinal of the last request taken in, after a packet of that mark
 abbrev pub got_after : End → ℕ → Packet → ℕ

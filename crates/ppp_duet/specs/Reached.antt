@@ -2,7 +2,7 @@
 use Rattle.std.specs.Prelude.{◌≡◌, ℕ, ◌+◌, ◌%◌, true, List, ◌++◌, take}
 use Rattle.std.specs.List.{AllByRecursion}
 use Rattle.ppp_packet.specs.ConfigOption.{ConfigOption}
-use Rattle.ppp_auto.specs.Automaton.{has_acked}
+use Rattle.ppp_auto.specs.Auto.{has_acked}
 use Rattle.ppp_auto.specs.Packet.{Request}
 use Rattle.ppp_duet.specs.Duet.{Duet, End, Event, Marked, Setup, run, start}
 use Rattle.ppp_duet.specs.NarrowRun.{IsNarrowWhereTaken}

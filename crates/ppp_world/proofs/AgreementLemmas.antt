@@ -10,7 +10,7 @@ use Rattle.ppp_auto.specs.Reply.{same_option, same_list}
 use Rattle.ppp_duet.specs.Agreement.{Agree}
 use Rattle.ppp_world.specs.Lcp.{Sendable, Allows, Compatible}
 use Rattle.ppp_packet.specs.declared.proto.Proto.{Proto}
-use Rattle.ppp_auto.specs.Automaton.{is_opened}
+use Rattle.ppp_auto.specs.Auto.{is_opened}
 use Rattle.ppp_auto.specs.declared.auto_state.AutoState.{AutoState}
 use Rattle.ppp_auto.specs.declared.auto_state.AutoState.TheVariants.{Opened}
 use Rattle.ppp_world.specs.Agreement.{duet_at, terms_at, agrees, agree_terms, agree_of, agree_at, AreOpened, AreOpenedAt, AgreesIfOpened, AgreesAt}

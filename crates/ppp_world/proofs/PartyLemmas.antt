@@ -2,7 +2,7 @@
 use Rattle.std.proofs.Common.{◌≡◌, ℕ, zero, suc, ◌+◌, ◌≤◌, List, [], ◌∷◌, ◌++◌, take, drop, length, refl, sym, ◌∙◌, ap, arith, append_assoc}
 use Rattle.std.specs.Prelude.{Some, slice_get}
 use Rattle.std.proofs.lemmas.List.{append-nil, take_all}
-use Rattle.ppp_auto.specs.Automaton.{Entry, Send, Signal}
+use Rattle.ppp_auto.specs.Outbox.{Entry, Send, Signal}
 use Rattle.ppp_auto.specs.Packet.{Packet}
 use Rattle.ppp_duet.specs.Duet.{Marked}
 use Rattle.ppp_world.specs.Frame.{packet_held}

@@ -5,7 +5,7 @@ use Rattle.std.specs.List.{AllByRecursion}
 use Rattle.std.proofs.lemmas.Bool.{cases_lt}
 use Rattle.std.proofs.lemmas.Bool.Decides.{nat_tests}
 use Rattle.std.proofs.lemmas.List.{take_all}
-use Rattle.ppp_auto.specs.Automaton.{Taken, kind}
+use Rattle.ppp_auto.specs.Taken.{Taken, kind}
 use Rattle.ppp_auto.specs.EventTable.{cell_of, asks}
 use Rattle.ppp_auto.specs.declared.input.Input.{Input}
 use Rattle.ppp_duet.specs.Duet.{Duet, End as End', Marked, Setup, Event, Loses, Side, A, B, at_first, does, does_if, takes, got_after, delivers, happens, run, turned, without}

@@ -4,7 +4,7 @@ use Rattle.std.specs.Option.{IfSome, option_and_then}
 use Rattle.ppp_packet.specs.ConfigOption.{ConfigOption}
 use Rattle.ppp_packet.specs.declared.proto.Proto.{Proto}
 use Rattle.ppp_packet.specs.declared.proto.Proto.TheVariants.{Lcp}
-use Rattle.ppp_auto.specs.Automaton.{is_opened}
+use Rattle.ppp_auto.specs.Auto.{is_opened}
 use Rattle.ppp_auto.specs.Reply.{same_list}
 use Rattle.ppp_auto.specs.declared.auto_state.AutoState.TheVariants.{Opened}
 use Rattle.ppp_duet.specs.Duet.{Duet, End}

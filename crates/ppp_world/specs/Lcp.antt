@@ -5,7 +5,7 @@ use Rattle.std.specs.List.{filter}
 use Rattle.ppp_packet.specs.ConfigOption.{ConfigOption}
 use Rattle.ppp_packet.specs.Options.{option_with, find_kind}
 use Rattle.ppp_packet.specs.Packet.{two_octets}
-use Rattle.ppp_auto.specs.Automaton.{four_octets}
+use Rattle.ppp_auto.specs.Taken.{four_octets}
 use Rattle.ppp_auto.specs.Reply.{has_kind}
 use Rattle.ppp_auto.specs.OptionTable.{Table}
 use Rattle.ppp_auto.specs.declared.verdict.Verdict.{Verdict}

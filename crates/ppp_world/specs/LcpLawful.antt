@@ -7,7 +7,7 @@ use Rattle.std.proofs.lemmas.List.Folds.{list_any-append}
 use Rattle.ppp_packet.specs.ConfigOption.{ConfigOption}
 use Rattle.ppp_packet.specs.Options.{written, find_kind}
 use Rattle.ppp_packet.specs.Packet.{two_octets}
-use Rattle.ppp_auto.specs.Automaton.{four_octets}
+use Rattle.ppp_auto.specs.Taken.{four_octets}
 use Rattle.ppp_auto.specs.Reply.{has_kind}
 use Rattle.ppp_auto.specs.Lawful.{Lawful, Passes, AllGood, NoneTwice}
 use Rattle.ppp_auto.specs.declared.verdict.Verdict.TheVariants.{Good, Bad, Unknown}

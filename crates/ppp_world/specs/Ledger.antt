@@ -3,9 +3,11 @@ use Rattle.std.specs.Prelude.{◌≡◌, ℕ, ◌+◌, ◌%◌, ◌==◌, Bool, 
 use Rattle.ppp_packet.specs.ConfigOption.{ConfigOption}
 use Rattle.ppp_auto.specs.declared.auto_state.AutoState.{AutoState}
 use Rattle.ppp_auto.specs.declared.auto_state.AutoState.TheVariants.{ReqSent, AckRcvd, AckSent, Opened}
-use Rattle.ppp_auto.specs.Automaton.{Auto, Entry, Send, Signal}
+use Rattle.ppp_auto.specs.Auto.{Auto}
+use Rattle.ppp_auto.specs.Outbox.{Entry, Send, Signal}
 use Rattle.ppp_auto.specs.Packet.{Packet, Request, Ack, Nak, Reject, Other}
-use Rattle.ppp_duet.specs.Duet.{Marked, mark_of, End, is_off}
+use Rattle.ppp_duet.specs.Duet.{Marked, mark_of, End}
+use Rattle.ppp_auto.specs.Auto.{is_off}
 use Rattle.ppp_world.specs.Frame.{packet_held, HoldsPacket}
 use Rattle.ppp_world.specs.declared.ledger.TheConstants.{FIRST_ID}
 

@@ -1,6 +1,7 @@
 -- An end of the link, and what it comes to.
 use Rattle.std.specs.Prelude.{ℕ, List}
-use Rattle.ppp_auto.specs.Automaton.{Auto, Acted, begun, command, take_in, entries_of}
+use Rattle.ppp_auto.specs.Auto.{Auto, begun}
+use Rattle.ppp_auto.specs.Automaton.{Acted, command, take_in, entries_of}
 use Rattle.ppp_auto.specs.OptionTable.{Table}
 use Rattle.ppp_auto.specs.declared.auto_event.AutoEvent.{AutoEvent}
 use Rattle.ppp_duet.specs.Duet.{End, Marked}

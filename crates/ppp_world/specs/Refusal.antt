@@ -4,16 +4,11 @@ use Rattle.std.specs.Fmt.{decimal}
 use Rattle.ppp_packet.specs.Proto.{proto_number, proto_name}
 use Rattle.ppp_packet.specs.declared.proto.Proto.{Proto}
 use Rattle.ppp_packet.specs.declared.proto.Proto.TheVariants.{Lcp, Ip, Ipv6, Osi, Mpls, Bacp}
-use Rattle.ppp_script.specs.declared.end.End.{End}
-use Rattle.ppp_script.specs.declared.end.End.TheVariants.{A, B}
+use Rattle.ppp_script.specs.End.{end_name}
 use Rattle.ppp_world.specs.declared.outstanding.Outstanding.{Outstanding as Outstanding'}
 use Rattle.ppp_world.specs.declared.refusal.Refusal.{Refusal}
 use Rattle.ppp_world.specs.declared.world_fault.WorldFault.{WorldFault}
 use Rattle.ppp_world.specs.declared.world_fault.WorldFault.TheVariants.{Memory, Outstanding}
-
-abbrev pub end_name : End → List ℕ
-end_name A = codes "a"
-end_name B = codes "b"
 
 -- the protocol of a number, if it is one's
 abbrev pub proto_of : ℕ → Option Proto

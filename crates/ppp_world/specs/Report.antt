@@ -6,24 +6,12 @@ use Rattle.ppp_packet.specs.ConfigOption.{ConfigOption}
 use Rattle.ppp_packet.specs.Options.{written}
 use Rattle.ppp_packet.specs.Proto.{proto_name}
 use Rattle.ppp_packet.specs.declared.proto.Proto.TheVariants.{Lcp}
-use Rattle.ppp_auto.specs.Automaton.{Auto, mine_of, peer_of}
+use Rattle.ppp_auto.specs.Auto.{Auto, mine_of, peer_of}
 use Rattle.ppp_auto.specs.declared.auto_state.AutoState.{AutoState}
-use Rattle.ppp_auto.specs.declared.auto_state.AutoState.TheVariants.{Initial, Starting, Closed, Stopped, Closing, Stopping, ReqSent, AckRcvd, AckSent, Opened}
+use Rattle.ppp_auto.specs.AutoState.{state_name}
 use Rattle.ppp_duet.specs.Duet.{Duet}
 use Rattle.ppp_world.specs.Agreement.{agree_at}
 use Rattle.ppp_world.specs.declared.step.TheConstants.{ONLY_LINK}
-
-abbrev pub state_name : AutoState → List ℕ
-state_name Initial = codes "Initial"
-state_name Starting = codes "Starting"
-state_name Closed = codes "Closed"
-state_name Stopped = codes "Stopped"
-state_name Closing = codes "Closing"
-state_name Stopping = codes "Stopping"
-state_name ReqSent = codes "Req-Sent"
-state_name AckRcvd = codes "Ack-Rcvd"
-state_name AckSent = codes "Ack-Sent"
-state_name Opened = codes "Opened"
 
 -- a granted list in hexadecimal digits
 abbrev pub list_text : Option (List ConfigOption) → List ℕ

@@ -1,6 +1,6 @@
 -- The run of a script, its report, and the first step that is refused.
 use Rattle.std.specs.Prelude.{ℕ, zero, suc, ◌+◌, List, [], ◌∷◌, ◌++◌, All, Option, Some, None}
-use Rattle.ppp_auto.specs.Automaton.{Entry}
+use Rattle.ppp_auto.specs.Outbox.{Entry}
 use Rattle.ppp_duet.specs.Duet.{Duet, start}
 use Rattle.ppp_script.specs.declared.event.Event.{Event}
 use Rattle.ppp_world.specs.Agreement.{AgreesEverywhere}

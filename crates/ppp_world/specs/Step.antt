@@ -2,7 +2,8 @@
 -- LCP, so its state is the duet of that, and each step is one of the duet's events, after which the frames that found
 -- a queue full are lost.
 use Rattle.std.specs.Prelude.{ℕ, ◌+◌, ◌*◌, ◌==◌, if◌then◌else◌, List, [], ◌∷◌, take, Option, Some, None}
-use Rattle.ppp_auto.specs.Automaton.{Entry, command, take_in, entries_of}
+use Rattle.ppp_auto.specs.Outbox.{Entry}
+use Rattle.ppp_auto.specs.Automaton.{command, take_in, entries_of}
 use Rattle.ppp_auto.specs.declared.auto_event.AutoEvent.TheVariants as event
 use Rattle.ppp_duet.specs.Duet.{Duet, End as End', Setup, Side, Marked, Commands, Delivers, Loses, happens}
 use Rattle.ppp_duet.specs.Duet as duet

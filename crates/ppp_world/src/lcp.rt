@@ -5,7 +5,9 @@ ghost use Rattle.std.specs.Prelude.{◌≡◌, ◌+◌, ◌≤◌, true, [], ◌
 ghost use Rattle.ppp_packet.specs.Options.{written, option_with, find_kind};
 ghost use Rattle.ppp_packet.specs.Packet.{two_octets};
 ghost use Rattle.ppp_packet.specs.OptRef.{option_seen};
-ghost use Rattle.ppp_auto.specs.Automaton.{four_octets};
+ghost use Rattle.ppp_packet.specs.Proto.{proto_number};
+ghost use Rattle.ppp_packet.specs.declared.proto.Proto.TheVariants.{Lcp};
+ghost use Rattle.ppp_auto.specs.Taken.{four_octets};
 ghost use Rattle.ppp_auto.specs.Reply.{has_kind};
 ghost use Rattle.ppp_world.specs.Lcp as spec;
 ghost use Rattle.ppp_world.specs.LcpLawful.{lcp_lawful};
@@ -60,6 +62,8 @@ impl LcpTable {
 
 impl OptionTable for LcpTable {
     const PROTOCOL: u16 = 0xc021;
+
+    ghost PROTOCOL = { proto_number Lcp };
 
     const EXTENDED: bool = true;
 

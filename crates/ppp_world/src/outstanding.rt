@@ -1,7 +1,7 @@
 //! The refusal of a span that is too wide.
 
 ghost use Rattle.std.specs.Prelude.{◌≡◌, Some};
-ghost use Rattle.ppp_world.specs.Refusal.{end_name, outstanding_text, proto_of, protocol_text, span_text, whose_text};
+ghost use Rattle.ppp_world.specs.Refusal.{outstanding_text, proto_of, protocol_text, span_text, whose_text};
 
 use ppp_packet::Proto;
 use ppp_script::End;
@@ -42,7 +42,7 @@ impl fmt::Display for Whose {
 
     #[tactic(auto, unfolding(crate::specs::Refusal::whose_text))]
     fn fmt<W: fmt::Write>(&self, f: &mut fmt::Formatter<W>) -> fmt::Result {
-        let end = end_name(self.0.end);
+        let end = self.0.end;
         let link = self.0.link;
         let protocol = Protocol(self.0.protocol);
         write!(f, "end {end} link {link} {protocol}")
@@ -91,15 +91,5 @@ fn proto_of(number: u16) -> Option<Proto>
         0x8281 => Some(Proto::Mpls),
         0xc02b => Some(Proto::Bacp),
         _ => None,
-    }
-}
-
-/// The letter of an end.
-fn end_name(end: End) -> &'static str
-    ensures { result.now ≡ end_name end }
-{
-    match end {
-        End::A => "a",
-        End::B => "b",
     }
 }

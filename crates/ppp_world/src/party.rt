@@ -1,8 +1,8 @@
 //! An end of the link.
 
 ghost use Rattle.std.specs.Prelude.{◌≡◌, ◌+◌, ◌^◌, ◌<◌, ◌≤◌, ◌++◌, ◌∷◌, [], take, length, OnOk, option_map, Some};
-ghost use Rattle.ppp_auto.specs.Automaton.{mine_of, peer_of};
-ghost use Rattle.ppp_auto.specs.Entries.{entry_lent};
+ghost use Rattle.ppp_auto.specs.Auto.{mine_of, peer_of};
+ghost use Rattle.ppp_auto.specs.Outbox.{entry_seen};
 ghost use Rattle.ppp_auto.specs.Packet.{Packet};
 ghost use Rattle.ppp_duet.specs.Duet.{mark_of};
 ghost use Rattle.ppp_world.specs.Frame.{kind_of, packet_held, HoldsPacket};
@@ -153,11 +153,11 @@ fn post_entry(
     queue: &mut Queue,
     alloc: Global,
 ) -> Result<(), Memory>
-    requires held { AllHold (entry_lent entry ∷ []) }
+    requires held { AllHold (entry_seen entry ∷ []) }
     requires few { ledger.old.n + 256 < 2 ^ 64 }
     requires room { length queue.old ≤ ROOM }
-    ensures ledger { OnOk result (ledger.new ≡ noted_all ledger.old (packets_in (entry_lent entry.entry ∷ []))) }
-    ensures queue { OnOk result (queue.new ≡ take ROOM (queue.old ++ stamped ledger.old mark (packets_in (entry_lent entry.entry ∷ [])))) }
+    ensures ledger { OnOk result (ledger.new ≡ noted_all ledger.old (packets_in (entry_seen entry.entry ∷ []))) }
+    ensures queue { OnOk result (queue.new ≡ take ROOM (queue.old ++ stamped ledger.old mark (packets_in (entry_seen entry.entry ∷ [])))) }
     ensures room { length queue.new ≤ ROOM }
 {
     match entry {

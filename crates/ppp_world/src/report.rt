@@ -3,14 +3,14 @@
 ghost use Rattle.std.specs.Prelude.{◌≡◌, ◌<◌, ◌++◌, ◌∷◌, [], OnOk, Some, option_map, slice_index};
 ghost use Rattle.std.specs.String.{string_bytes};
 ghost use Rattle.hex.specs.Hex.{encode_lower, lower_digits};
-ghost use Rattle.ppp_world.specs.Report.{agree_text, lcp_line, list_text, lists_text, show_block, state_name, states_text, terms_text};
+ghost use Rattle.ppp_world.specs.Report.{agree_text, lcp_line, list_text, lists_text, show_block, states_text, terms_text};
 ghost use Rattle.ppp_world.specs.TwoEnds.{duet_seen};
 
 use crate::agreement::agree;
 use crate::party::Party;
 use crate::step::ONLY_LINK;
 use crate::two_ends::TwoEnds;
-use ppp_auto::{AutoState, Memory};
+use ppp_auto::Memory;
 use ppp_packet::{OptList, Proto};
 use std::fmt;
 
@@ -72,8 +72,8 @@ impl fmt::Display for States<'_> {
 
     #[tactic(auto, unfolding(crate::specs::Report::states_text))]
     fn fmt<W: fmt::Write>(&self, f: &mut fmt::Formatter<W>) -> fmt::Result {
-        let a = state_name(self.ends.a().state());
-        let b = state_name(self.ends.b().state());
+        let a = self.ends.a().state();
+        let b = self.ends.b().state();
         write!(f, "{a} {b}")
     }
 }
@@ -163,24 +163,6 @@ fn digit(number: u8) -> &'static str
         13 => "d",
         14 => "e",
         _ => "f",
-    }
-}
-
-/// A state's name.
-fn state_name(state: AutoState) -> &'static str
-    ensures { result.now ≡ state_name state }
-{
-    match state {
-        AutoState::Initial => "Initial",
-        AutoState::Starting => "Starting",
-        AutoState::Closed => "Closed",
-        AutoState::Stopped => "Stopped",
-        AutoState::Closing => "Closing",
-        AutoState::Stopping => "Stopping",
-        AutoState::ReqSent => "Req-Sent",
-        AutoState::AckRcvd => "Ack-Rcvd",
-        AutoState::AckSent => "Ack-Sent",
-        AutoState::Opened => "Opened",
     }
 }
 

@@ -78,7 +78,10 @@ fn replays_up_to_the_refused_step(rt: HostRuntime) {
         text.push_str("down a 1\nup a 1\n").expect(&rt, "memory");
     }
     assert!(rt; text.len() < 100_000);
-    let script = read_script(rt.alloc(), text.as_bytes(), 1).expect(&rt, "a script in form");
+    let script = read_script::<Event>(rt.alloc(), text.as_bytes(), 1).expect(
+        &rt,
+        "a script in form",
+    );
     let replayed = replay(rt.alloc(), &script).expect(&rt, "memory");
     let fault = Outstanding {
         end: End::A,

@@ -1,6 +1,6 @@
 use Rattle.std.proofs.Common.{ap, ◌∙◌, ◌-◌, drop, sym, Some, arith}
 use Rattle.std.proofs.lemmas.List.{length-take}
-use Rattle.ppp_auto.specs.Automaton.{Send}
+use Rattle.ppp_auto.specs.Outbox.{Send}
 use Rattle.ppp_auto.proofs.OutboxLemmas.{within-at, view-at}
 use Rattle.ppp_auto.proofs.outbox.lend.Goals as goal
 

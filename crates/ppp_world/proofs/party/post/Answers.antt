@@ -1,21 +1,21 @@
 use Rattle.std.proofs.Common.{◌≡◌, suc, [], ◌∷◌, drop, arith, add-one, ap, sym}
-use Rattle.ppp_auto.specs.Entries.{entry_lent}
+use Rattle.ppp_auto.specs.Outbox.{entry_seen}
 use Rattle.ppp_world.specs.Ledger.{Ledger}
 use Rattle.ppp_world.proofs.PartyLemmas.{left-next, first-holds, drop-get, noted-le, left-none, drop-past}
 use Rattle.ppp_world.proofs.party.post.Goals as goal
 
 pub post_entry-requires-clause-held : goal.post_entry-requires-clause-held
-post_entry-requires-clause-held c = first-holds _ _ _ (drop-get c.args.out.now c.loop-i.i (entry_lent c.at.result) c.at.ensures.entry) c.loop-i.invariant.left.reads
+post_entry-requires-clause-held c = first-holds _ _ _ (drop-get c.args.out.now c.loop-i.i (entry_seen c.at.result) c.at.ensures.entry) c.loop-i.invariant.left.reads
 
 pub loop-i-preserved : goal.loop-i-preserved
 loop-i-preserved c =
-    let front : drop c.loop-i.i c.args.out.now ≡ entry_lent c.at.result ∷ drop (suc c.loop-i.i) c.args.out.now = drop-get c.args.out.now c.loop-i.i (entry_lent c.at.result) c.at.ensures.entry in
-    let grown = noted-le c.loop-i.ledger (entry_lent c.at.result) in
+    let front : drop c.loop-i.i c.args.out.now ≡ entry_seen c.at.result ∷ drop (suc c.loop-i.i) c.args.out.now = drop-get c.args.out.now c.loop-i.i (entry_seen c.at.result) c.at.ensures.entry in
+    let grown = noted-le c.loop-i.ledger (entry_seen c.at.result) in
     let same = ap (λ (g : Ledger). g.n) c.in_ok-post_entry.ensures.ledger in
     record {
       few = omega (arith, grown, same, c.loop-i.invariant.few);
       room = c.post_entry.ensures.room;
-      left = rw add-one (left-next (entry_lent c.at.result) _ _ _ _ _ _ _ _ _ _ front c.in_ok-post_entry.ensures.ledger c.in_ok-post_entry.ensures.queue c.loop-i.invariant.left);
+      left = rw add-one (left-next (entry_seen c.at.result) _ _ _ _ _ _ _ _ _ _ front c.in_ok-post_entry.ensures.ledger c.in_ok-post_entry.ensures.queue c.loop-i.invariant.left);
     }
 
 pub returns-clause-ledger : goal.returns-clause-ledger
