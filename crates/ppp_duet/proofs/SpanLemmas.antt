@@ -9,7 +9,7 @@ use Rattle.ppp_auto.specs.Packet.{Packet, Other}
 use Rattle.ppp_packet.specs.declared.code.Code.TheVariants.{ProtocolReject}
 use Rattle.ppp_packet.specs.Code.{code_number}
 use Rattle.ppp_duet.specs.Duet.{End, Marked, Duet, Setup, Side, A, B, Happening, Commands, SetsCap, RejectsProtocol, Delivers, Loses, Reboots, Event, does, does_if, start, takes, got_after, without, turned, delivers, at_first, at_side, happens}
-use Rattle.ppp_duet.specs.Span.{request_mark, answer_mark, requests, answers, least, span_of, widest, Narrow}
+use Rattle.ppp_duet.specs.Span.{request_mark, answer_mark, requests, answers, least, span_of, widest, Narrow, StaysNarrow}
 use Rattle.ppp_duet.proofs.Packets.{RepliesIf, all_sent, sent_requests, sent_answers}
 use Rattle.ppp_duet.proofs.Queues.{answer_id, all_weaker, all_append, all_front, all_back, marks_append, marks_without, request_marked, answer_marked, Rising, rising_within, by_request, by_answer}
 use Rattle.ppp_duet.proofs.TakenLemmas.{replies}
@@ -78,17 +78,17 @@ takes_near s e m word other h =
     (replies s.table e.auto m.packet word (λ _. IsNear other m.mark) (λ id is. (rw (request_marked m.mark m.packet, is) at h).0))
 
 -- the first end became `x` and sent packets, and `rest` is left of the queue to it
-narrow_after : (a b x : End) (to_b rest sent : List Marked) → x.n ≤ a.n → Near a.n to_b rest → Near b.n rest to_b → SentNear x.n b.n sent →
-    Narrow (record { a = x; b = b; to_a = rest; to_b = to_b ++ sent })
-narrow_after a b x to_b rest sent still mine theirs near = record {
-  of_a = span_near x.n (to_b ++ sent) rest (record {
-    asked = marks_append by_request (IsNear x.n) to_b sent (all_weaker (λ (m : ℕ) (k : IsNear a.n m). omega arith) (requests to_b) mine.asked)
+narrow_after : (d : Duet) (x : End) (rest sent : List Marked) → Near d.a.n d.to_b rest → Near d.b.n rest d.to_b → SentNear x.n d.b.n sent →
+    StaysNarrow d (record { a = x; b = d.b; to_a = rest; to_b = d.to_b ++ sent })
+narrow_after d x rest sent mine theirs near = record {
+  of_a = λ still. span_near x.n (d.to_b ++ sent) rest (record {
+    asked = marks_append by_request (IsNear x.n) d.to_b sent (all_weaker (λ (m : ℕ) (k : IsNear d.a.n m). omega arith) (requests d.to_b) mine.asked)
         (all_weaker (λ (m : ℕ) (k : m ≡ x.n). omega arith) (requests sent) near.asked);
-    answered = all_weaker (λ (m : ℕ) (k : IsNear a.n m). omega arith) (answers rest) mine.answered;
+    answered = all_weaker (λ (m : ℕ) (k : IsNear d.a.n m). omega arith) (answers rest) mine.answered;
   });
-  of_b = span_near b.n rest (to_b ++ sent) (record {
+  of_b = λ still. span_near d.b.n rest (d.to_b ++ sent) (record {
     asked = theirs.asked;
-    answered = marks_append by_answer (IsNear b.n) to_b sent theirs.answered near.answered;
+    answered = marks_append by_answer (IsNear d.b.n) d.to_b sent theirs.answered near.answered;
   });
 }
 
@@ -97,49 +97,51 @@ near_rest : (n : ℕ) (out : List Marked) (m : Marked) (rest : List Marked) → 
 near_rest n out m rest near = record { asked = near.asked; answered = all_back (IsNear n) (answer_mark m.mark m.packet) (answers rest) near.answered }
 
 narrow_delivered : (s : Setup) (a b : End) (to_a to_b : List Marked) (word : ℕ) → let d : Duet = record { a = a; b = b; to_a = to_a; to_b = to_b } in
-    (delivers s d to_a word).a.n ≤ a.n → Narrow d → Narrow (delivers s d to_a word)
-narrow_delivered s a b [] to_b word still h = h
-narrow_delivered s a b (m ∷ rest) to_b word still h =
+    Narrow d → StaysNarrow d (delivers s d to_a word)
+narrow_delivered s a b [] to_b word h = record { of_a = λ still. h.of_a; of_b = λ still. h.of_b }
+narrow_delivered s a b (m ∷ rest) to_b word h =
     let mine = near_span a.n to_b (m ∷ rest) h.of_a in
     let theirs = near_span b.n (m ∷ rest) to_b h.of_b in
-    narrow_after a b (takes s a m word).end to_b rest (takes s a m word).sent still (near_rest a.n to_b m rest mine)
+    let stays = narrow_after (record { a = a; b = b; to_a = m ∷ rest; to_b = to_b }) (takes s a m word).end rest (takes s a m word).sent (near_rest a.n to_b m rest mine)
     (record { asked = all_back (IsNear b.n) (request_mark m.mark m.packet) (requests rest) theirs.asked; answered = theirs.answered })
-    (takes_near s a m word b.n (all_front (IsNear b.n) (request_mark m.mark m.packet) (requests rest) theirs.asked))
+    (takes_near s a m word b.n (all_front (IsNear b.n) (request_mark m.mark m.packet) (requests rest) theirs.asked)) in
+    record { of_a = stays.of_a; of_b = stays.of_b }
 
-narrow_first : (sa sb : Setup) (d : Duet) (what : Happening) (word : ℕ) → (at_first sa sb d what word).a.n ≤ d.a.n → (at_first sa sb d what word).b.n ≤ d.b.n →
-    Narrow d → Narrow (at_first sa sb d what word)
+narrow_first : (sa sb : Setup) (d : Duet) (what : Happening) (word : ℕ) → Narrow d → StaysNarrow d (at_first sa sb d what word)
 unfolding at_first
-narrow_first sa sb d (Commands e) word still_a still_b h =
+narrow_first sa sb d (Commands e) word h =
     let input = input_of d.a.auto e in
     let did = does sa d.a input (taken_as d.a.auto (Some input) 0) 0 word in
-    narrow_after d.a d.b did.end d.to_b d.to_a did.sent still_a (near_span d.a.n d.to_b d.to_a h.of_a) (near_span d.b.n d.to_a d.to_b h.of_b)
+    narrow_after d did.end d.to_a did.sent (near_span d.a.n d.to_b d.to_a h.of_a) (near_span d.b.n d.to_a d.to_b h.of_b)
     (does_near sa d.a input (taken_as d.a.auto (Some input) 0) 0 word d.b.n (λ p is. absurd (cc)))
-narrow_first sa sb d (SetsCap cap) word still_a still_b h = record { of_a = h.of_a; of_b = h.of_b }
-narrow_first sa sb d (RejectsProtocol id octets) word still_a still_b h =
-    narrow_after d.a d.b d.a d.to_b d.to_a (record { mark = 0; packet = Other (code_number ProtocolReject) id octets } ∷ []) still_a (near_span d.a.n d.to_b d.to_a h.of_a) (near_span d.b.n d.to_a d.to_b h.of_b)
+narrow_first sa sb d (SetsCap cap) word h = record { of_a = λ still. h.of_a; of_b = λ still. h.of_b }
+narrow_first sa sb d (RejectsProtocol id octets) word h =
+    narrow_after d d.a d.to_a (record { mark = 0; packet = Other (code_number ProtocolReject) id octets } ∷ []) (near_span d.a.n d.to_b d.to_a h.of_a) (near_span d.b.n d.to_a d.to_b h.of_b)
     (record { asked = tt; answered = tt })
-narrow_first sa sb d Delivers word still_a still_b h = narrow_delivered sa d.a d.b d.to_a d.to_b word still_a h
-narrow_first sa sb d (Loses place) word still_a still_b h =
+narrow_first sa sb d Delivers word h = narrow_delivered sa d.a d.b d.to_a d.to_b word h
+narrow_first sa sb d (Loses place) word h =
     let mine = near_span d.a.n d.to_b d.to_a h.of_a in
     let theirs = near_span d.b.n d.to_a d.to_b h.of_b in
     record {
-      of_a = span_near d.a.n d.to_b (without place d.to_a) (record { asked = mine.asked; answered = marks_without by_answer (IsNear d.a.n) place d.to_a mine.answered });
-      of_b = span_near d.b.n (without place d.to_a) d.to_b (record { asked = marks_without by_request (IsNear d.b.n) place d.to_a theirs.asked; answered = theirs.answered });
+      of_a = λ still. span_near d.a.n d.to_b (without place d.to_a) (record { asked = mine.asked; answered = marks_without by_answer (IsNear d.a.n) place d.to_a mine.answered });
+      of_b = λ still. span_near d.b.n (without place d.to_a) d.to_b (record { asked = marks_without by_request (IsNear d.b.n) place d.to_a theirs.asked; answered = theirs.answered });
     }
-narrow_first sa sb d Reboots word still_a still_b h = record { of_a = omega arith; of_b = omega arith }
+narrow_first sa sb d Reboots word h = record { of_a = λ still. omega arith; of_b = λ still. omega arith }
 
-narrow_at : (side : Side) (sa sb : Setup) (d : Duet) (what : Happening) (word : ℕ) → (at_side side sa sb d what word).a.n ≤ d.a.n →
-    (at_side side sa sb d what word).b.n ≤ d.b.n →
-    Narrow d → Narrow (at_side side sa sb d what word)
-narrow_at A sa sb d what word still_a still_b h = narrow_first sa sb d what word still_a still_b h
-narrow_at B sa sb d what word still_a still_b h =
-    let k = narrow_first sb sa (turned d) what word still_b still_a (record { of_a = h.of_b; of_b = h.of_a }) in
+narrow_at : (side : Side) (sa sb : Setup) (d : Duet) (what : Happening) (word : ℕ) → Narrow d → StaysNarrow d (at_side side sa sb d what word)
+narrow_at A sa sb d what word h = narrow_first sa sb d what word h
+narrow_at B sa sb d what word h =
+    let k = narrow_first sb sa (turned d) what word (record { of_a = h.of_b; of_b = h.of_a }) in
     record { of_a = k.of_b; of_b = k.of_a }
 
--- An event in which no ordinal rises keeps a state narrow, whatever the tables.
+-- An event keeps the span of each end narrow whose ordinal doesn't rise, whatever the tables.
+pub stays_narrow : (sa sb : Setup) (d : Duet) (e : Event) → Narrow d → StaysNarrow d (happens sa sb d e)
+stays_narrow sa sb d e h = narrow_at e.side sa sb d e.what e.word h
+
+-- An event in which no ordinal rises keeps a state narrow.
 pub narrow_still : (sa sb : Setup) (d : Duet) (e : Event) → (happens sa sb d e).a.n ≤ d.a.n → (happens sa sb d e).b.n ≤ d.b.n → Narrow d →
     Narrow (happens sa sb d e)
-narrow_still sa sb d e still_a still_b h = narrow_at e.side sa sb d e.what e.word still_a still_b h
+narrow_still sa sb d e still_a still_b h = let stays = stays_narrow sa sb d e h in record { of_a = stays.of_a still_a; of_b = stays.of_b still_b }
 
 pub narrow_start : (sa sb : Setup) → Narrow (start sa sb)
 narrow_start sa sb = record { of_a = omega arith; of_b = omega arith }

@@ -37,3 +37,8 @@ widest = 255
 pub record Narrow (d : Duet) : Type 0 where
   pub of_a : span_of d.a.n d.to_b d.to_a ≤ widest
   pub of_b : span_of d.b.n d.to_a d.to_b ≤ widest
+
+-- each end's span is narrow still whose ordinal hasn't risen
+pub record StaysNarrow (before after : Duet) : Type 0 where
+  pub of_a : after.a.n ≤ before.a.n → span_of after.a.n after.to_b after.to_a ≤ widest
+  pub of_b : after.b.n ≤ before.b.n → span_of after.b.n after.to_a after.to_b ≤ widest
