@@ -8,8 +8,7 @@ use Rattle.ppp_script.specs.declared.event.Event.{Event}
 use Rattle.ppp_world.specs.Refusal.{refusal_in}
 use Rattle.ppp_world.specs.Run.{run_from, run_of, place_begun, report, refusal, before_refusal}
 use Rattle.ppp_world.specs.Settings.{Settings}
-use Rattle.ppp_world.specs.World.{World, world_begun, world_after, answer_of, fault_of, place_of, UnlessMemory}
-use Rattle.ppp_world.specs.declared.outstanding.Outstanding.{Outstanding as Outstanding'}
+use Rattle.ppp_world.specs.World.{World, world_begun, world_after, answer_of, place_of, UnlessMemory}
 use Rattle.ppp_world.specs.declared.refusal.Refusal.{Refusal}
 use Rattle.ppp_world.specs.declared.world_fault.WorldFault.{WorldFault}
 use Rattle.ppp_world.specs.declared.world_fault.WorldFault.TheVariants.{Memory, Outstanding}

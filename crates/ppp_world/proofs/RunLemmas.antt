@@ -1,11 +1,11 @@
 -- In every state of a run that isn't refused two Opened ends agree.
-use Rattle.std.proofs.Common.{◌≡◌, ℕ, zero, suc, ◌+◌, List, [], ◌∷◌, ◌++◌, length, refl, sym, ◌∙◌, ap, subst, arith, length-append}
-use Rattle.std.specs.Prelude.{Option, Some, None, All, ⊤}
+use Rattle.std.proofs.Common.{◌≡◌, ℕ, zero, suc, ◌+◌, List, [], ◌∷◌, ◌++◌, length, refl, sym, ap, subst, arith}
+use Rattle.std.specs.Prelude.{Option, Some, None, ⊤}
 use Rattle.std.proofs.lemmas.List.Elements.{All-nil, All-cons}
 use Rattle.ppp_duet.specs.Duet.{Duet}
 use Rattle.ppp_duet.specs.Reached.{Reached}
 use Rattle.ppp_duet.specs.Span.{Narrow}
-use Rattle.ppp_duet.specs.Terms.{Terms, AreLawful}
+use Rattle.ppp_duet.specs.Terms.{Terms}
 use Rattle.ppp_duet.proofs.ReachedLemmas.{reached_start, agreement_at}
 use Rattle.ppp_duet.proofs.SpanLemmas.{narrow_start}
 use Rattle.ppp_script.specs.Event.{steps_in}
@@ -14,7 +14,7 @@ use Rattle.ppp_script.specs.declared.event.Event.TheVariants.{Up, Down, AdminOpe
 use Rattle.ppp_world.specs.Agreement.{AgreesIfOpened, AgreesEverywhere}
 use Rattle.ppp_world.specs.Lcp.{Sendable, IsUnknown, Allows, Compatible}
 use Rattle.ppp_world.specs.LcpLawful.{lcp_lawful}
-use Rattle.ppp_world.specs.LcpSettings.{LcpSettings, IsRanged}
+use Rattle.ppp_world.specs.LcpSettings.{LcpSettings}
 use Rattle.ppp_world.specs.Outstanding.{outstanding_in}
 use Rattle.ppp_world.specs.Run.{Moment, Place, moment_at, after_moment, deliveries, moments_by, moments_of, place_after, run_from, place_begun, run_of, before_refusal, kept_with, AgreesThroughout}
 use Rattle.ppp_world.specs.Settings.{Settings, AreRanged, default_settings, setup_of}

@@ -1,6 +1,6 @@
 -- A world that takes a script's events one by one does the moments of its run, up to the first that is refused.
-use Rattle.std.proofs.Common.{◌≡◌, ℕ, zero, suc, ◌+◌, ◌-◌, ◌≤◌, ◌<◌, List, [], ◌∷◌, ◌++◌, length, refl, sym, ◌∙◌, ap, subst, arith, append_assoc}
-use Rattle.std.specs.Prelude.{Option, Some, None, IsSome, is_some, ⊤, true, false}
+use Rattle.std.proofs.Common.{◌≡◌, ℕ, suc, ◌+◌, ◌-◌, ◌≤◌, ◌<◌, List, [], ◌∷◌, ◌++◌, length, refl, sym, ◌∙◌, ap, subst, arith, append_assoc}
+use Rattle.std.specs.Prelude.{Option, Some, None, IsSome, is_some, ⊤, true}
 use Rattle.std.specs.Option.{option_map}
 use Rattle.std.proofs.lemmas.List.{append-nil}
 use Rattle.ppp_duet.specs.Duet.{Duet}
@@ -11,7 +11,7 @@ use Rattle.ppp_script.specs.declared.event.Event.{Event}
 use Rattle.ppp_world.specs.Outstanding.{outstanding_in}
 use Rattle.ppp_world.specs.Run.{Moment, Place, moment_at, after_moment, deliveries, moments_of, place_after, run_from, shown, shown_at, report, refusal, refusal_with, before_refusal, kept_with}
 use Rattle.ppp_world.specs.Settings.{Settings, AreRanged, setup_of}
-use Rattle.ppp_world.specs.Step.{moved, next_delivery, settling}
+use Rattle.ppp_world.specs.Step.{moved, next_delivery}
 use Rattle.ppp_world.specs.TwoEnds.{TwoEnds, settings_of, duet_seen, AreKept}
 use Rattle.ppp_world.specs.World.{World, world_of, place_of, fault_of, written_by, unless_halted, does_moment, does_moments, does_step, world_after, settled, UnlessMemory, Makes, AreLed, IsLedUnless, IsCounted}
 use Rattle.ppp_world.specs.declared.outstanding.Outstanding.{Outstanding as Outstanding'}
@@ -19,7 +19,7 @@ use Rattle.ppp_world.specs.declared.refusal.Refusal.{Refusal}
 use Rattle.ppp_world.specs.declared.step.Step.{Step}
 use Rattle.ppp_world.specs.declared.world_fault.WorldFault.{WorldFault}
 use Rattle.ppp_world.specs.declared.world_fault.WorldFault.TheVariants.{Memory, Outstanding}
-use Rattle.ppp_world.proofs.RunLemmas.{Linked, linked_event, linked_run, length-moments}
+use Rattle.ppp_world.proofs.RunLemmas.{Linked, linked_event, length-moments}
 use Rattle.ppp_world.proofs.StepLemmas.{narrow_of, reached_step, still_none, counted_step, IsStep, step_is}
 
 -- after a halt nothing changes

@@ -1,6 +1,6 @@
 -- A world as its calls see it: the settings and the state, the steps done, the report so far, and why it takes no
 -- further step.
-use Rattle.std.specs.Prelude.{◌≡◌, ℕ, ◌+◌, ◌*◌, ◌≤◌, List, [], ◌∷◌, ◌++◌, length, Option, Some, None, Result, Ok, Err, ⊤}
+use Rattle.std.specs.Prelude.{◌≡◌, ℕ, ◌*◌, ◌≤◌, List, [], ◌∷◌, ◌++◌, length, Option, Some, None, Result, Ok, Err, ⊤}
 use Rattle.std.specs.List.{AllByRecursion}
 use Rattle.ppp_duet.specs.Duet.{Duet, start, run, Event as Event', Happening, Commands, SetsCap, RejectsProtocol, Delivers, Loses, Reboots}
 use Rattle.ppp_duet.specs.Reached.{Reached}

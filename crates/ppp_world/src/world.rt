@@ -169,7 +169,7 @@ fn go(
     requires few { steps.old + 1 ≤ 100000 }
     ensures done { UnlessMemory (fault_in result)
         (world_of ends.new steps.new (string_bytes report.new) (fault_in result)
-            ≡ does_step (world_of ends.old steps.old (string_bytes report.old) None) step) }
+        ≡ does_step (world_of ends.old steps.old (string_bytes report.old) None) step) }
     ensures led { OnOk result (AreLed ends.new steps.new) }
     ensures steps { steps.new ≤ steps.old + 1 }
 {

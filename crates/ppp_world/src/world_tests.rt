@@ -2,16 +2,10 @@
 
 ghost use Rattle.std.specs.Prelude.{◌≡◌, None};
 
-use crate::{Outstanding, Refusal, World, WorldFault, replay};
+use crate::{Outstanding, Refusal, World, replay};
 use ppp_packet::Proto;
 use ppp_script::{End, Event, read_script, steps_of};
 use std::process::Abort;
-
-/// What a step of a world answers.
-fn step(rt: &impl Abort, world: &mut World, event: &Event) -> Result<(), WorldFault> {
-    assert!(rt; world.steps() <= 90_000 && steps_of(event) <= 1_000);
-    world.step(event)
-}
 
 /// Does the steps of an event, none of which is refused.
 fn done(rt: &impl Abort, world: &mut World, event: &Event)
@@ -41,32 +35,6 @@ fn two_opened_ends_agree(rt: HostRuntime) {
         world.report(),
         b"show 11\n1 lcp Opened Opened 050600000004 050600000009 050600000009 050600000004 agree yes\n".as_slice()
     );
-}
-
-#[test]
-fn refuses_a_span_above_255(rt: HostRuntime) {
-    let mut world = World::new(rt.alloc()).expect(&rt, "memory");
-    assert_eq!(rt; step(&rt, &mut world, &Event::Up(End::A, 1)), Ok(()));
-    assert_eq!(rt;
-        step(&rt, &mut world, &Event::AdminOpen(End::A, 1, Proto::Lcp)),
-        Ok(())
-    );
-    for _ in 0..255 {
-        assert_eq!(rt; step(&rt, &mut world, &Event::Down(End::A, 1)), Ok(()));
-        assert_eq!(rt; step(&rt, &mut world, &Event::Up(End::A, 1)), Ok(()));
-    }
-    assert_eq!(rt; step(&rt, &mut world, &Event::Down(End::A, 1)), Ok(()));
-    let refused = Err(WorldFault::Outstanding {
-        end: End::A,
-        link: 1,
-        protocol: 0xc021,
-        sent: 257,
-        oldest: 1,
-    });
-    assert_eq!(rt; step(&rt, &mut world, &Event::Up(End::A, 1)), refused);
-    assert_eq!(rt; step(&rt, &mut world, &Event::Show), refused);
-    assert_eq!(rt; world.steps(), 513);
-    assert!(rt; world.report().is_empty());
 }
 
 #[test]

@@ -1,4 +1,4 @@
-use Rattle.std.proofs.Common.{◌≡◌, ◌∙◌, sym, arith, None, Some}
+use Rattle.std.proofs.Common.{◌≡◌, ◌∙◌, sym, arith}
 use Rattle.ppp_world.proofs.WorldLemmas.{done_as, led_on, oldest_on, refused_as, still_on}
 use Rattle.ppp_world.proofs.world.go.Goals as goal
 
