@@ -1,18 +1,20 @@
 #!/usr/bin/env python3
-"""Compares the 160 cells of the event table in docs/PROTOCOL.md with the definition in crates/ppp_auto/specs/Rows.antt.
+"""Compares the 160 cells of the event table in docs/PROTOCOL.md with the definition in crates/ppp_auto/specs/EventTable.antt.
 
 Run by hand at the top of the repository: tools/compare_cells.py"""
 import re
 import sys
 
 STATES = ["Initial", "Starting", "Closed", "Stopped", "Closing", "Stopping", "ReqSent", "AckRcvd", "AckSent", "Opened"]
-ROWS = {"Up": "on_up", "Down": "on_down", "Open": "on_open", "Close": "on_close", "TO+": "on_timeout_again",
-        "TO-": "on_timeout_last", "RCR+": "on_request_good", "RCR-": "on_request_bad", "RCA": "on_ack", "RCN": "on_nak",
-        "RTR": "on_terminate_request", "RTA": "on_terminate_ack", "RUC": "on_unknown_code", "RXJ+": "on_rejected_well",
-        "RXJ-": "on_rejected_badly", "RXR": "on_echo"}
-ACTIONS = {"ThisUp": "tlu", "ThisDown": "tld", "ThisStarted": "tls", "ThisFinished": "tlf", "InitRestart": "irc",
-           "ZeroRestart": "zrc", "SendRequest": "scr", "RepeatRequest": "scr", "SendAck": "sca", "SendNak": "scn",
-           "SendTerminate": "str", "SendTerminateAck": "sta", "SendCodeReject": "scj", "SendEchoReply": "ser"}
+ROWS = {"Up": "on_up", "Down": "on_down", "Open": "on_open", "Close": "on_close", "TO+": "on_timeout_above_zero",
+        "TO-": "on_timeout_expired", "RCR+": "on_request_good", "RCR-": "on_request_bad", "RCA": "on_ack",
+        "RCN": "on_nak", "RTR": "on_terminate_request", "RTA": "on_terminate_ack", "RUC": "on_unknown_code",
+        "RXJ+": "on_rejected_well", "RXJ-": "on_rejected_badly", "RXR": "on_echo"}
+# scr' sends the last request again
+ACTIONS = {"ThisLayerUp": "tlu", "ThisLayerDown": "tld", "ThisLayerStarted": "tls", "ThisLayerFinished": "tlf",
+           "InitializeRestartCount": "irc", "ZeroRestartCount": "zrc", "SendConfigureRequest": "scr",
+           "RepeatConfigureRequest": "scr'", "SendConfigureAck": "sca", "SendConfigureNak": "scn",
+           "SendTerminateRequest": "str", "SendTerminateAck": "sta", "SendCodeReject": "scj", "SendEchoReply": "ser"}
 
 
 def cells_of_document(text):
@@ -46,7 +48,7 @@ def cells_of_definition(text):
 
 def main():
     document = cells_of_document(open("docs/PROTOCOL.md", encoding="utf-8").read())
-    definition = cells_of_definition(open("crates/ppp_auto/specs/Rows.antt", encoding="utf-8").read())
+    definition = cells_of_definition(open("crates/ppp_auto/specs/EventTable.antt", encoding="utf-8").read())
     wrong = [cell for cell in definition if document.get(cell) != definition[cell]]
     for cell in wrong:
         print(cell, "document", document.get(cell), "definition", definition[cell])

@@ -1,10 +1,17 @@
 -- One end's automaton (RFC 1661 section 4): what a row of the event table does, over packets that were read, and over
 -- octets.
-use Rattle.std.specs.Prelude.{ℕ, ◌+◌, ◌-◌, ◌%◌, min, Bool, true, false, ◌&&◌, ◌||◌, if◌then◌else◌, List, [], ◌∷◌, map, take, Option, Some, None}
+use Rattle.std.specs.Prelude.{◌≡◌, ◌≤◌, ℕ, ◌+◌, ◌-◌, ◌%◌, min, Bool, true, false, ◌&&◌, ◌||◌, if◌then◌else◌, List, [], ◌∷◌, length, map, take, Option, Some, None}
 use Rattle.std.specs.List.{flat_map}
-use Rattle.std.specs.Option.{option_to_list}
+use Rattle.std.specs.Option.{option_map, option_to_list, unwrap_or}
 use Rattle.ppp_packet.specs.declared.code.Code.TheVariants.{TerminateRequest, TerminateAck, CodeReject}
 use Rattle.ppp_packet.specs.Code.{code_number}
+use Rattle.ppp_packet.specs.ConfigOption.{ConfigOption}
+use Rattle.ppp_packet.specs.Options.{options_of, written}
+use Rattle.ppp_packet.specs.PacketRef.{packet_seen}
+use Rattle.ppp_packet.specs.declared.packet_ref.PacketRef.{PacketRef}
+use Rattle.ppp_auto.specs.declared.auto.Auto.{Auto as KeptAuto}
+use Rattle.ppp_auto.specs.declared.event_table.Cell.{Cell as KeptCell}
+use Rattle.ppp_auto.specs.declared.taken.Taken.{Taken as Kept}
 use Rattle.ppp_auto.specs.declared.auto_state.AutoState.{AutoState}
 use Rattle.ppp_auto.specs.declared.auto_state.AutoState.TheVariants.{Initial, Starting}
 use Rattle.ppp_auto.specs.declared.auto_event.AutoEvent.{AutoEvent}
@@ -15,12 +22,12 @@ use Rattle.ppp_auto.specs.declared.action.Action.{Action}
 use Rattle.ppp_auto.specs.declared.action.Action.TheVariants.{ThisLayerUp, ThisLayerDown, ThisLayerStarted, ThisLayerFinished, InitializeRestartCount, ZeroRestartCount, SendConfigureRequest, RepeatConfigureRequest, SendConfigureAck, SendConfigureNak, SendTerminateRequest, SendTerminateAck, SendCodeReject, SendEchoReply}
 use Rattle.ppp_auto.specs.declared.reply.TheConstants.{MAX_FAILURE}
 use Rattle.ppp_auto.specs.declared.taken.TheConstants.{HEADER}
-use Rattle.ppp_auto.specs.Auto.{Auto, last_id, begins_anew}
-use Rattle.ppp_auto.specs.EventTable.{Cell, cell_of, asks, acks, refuses, draws, restart_after}
+use Rattle.ppp_auto.specs.Auto.{Auto, auto_seen, begins_anew, last_id}
+use Rattle.ppp_auto.specs.EventTable.{Cell, acks, asks, cell_of, cell_seen, draws, refuses, restart_after}
 use Rattle.ppp_auto.specs.OptionTable.{Table}
 use Rattle.ppp_auto.specs.Outbox.{Effect, Sends, Tells, Entry, entry_of}
-use Rattle.ppp_auto.specs.Packet.{Packet, Request, Nak, Other, packet_of}
-use Rattle.ppp_auto.specs.Taken.{Taken, taken_as, kind, input_of}
+use Rattle.ppp_auto.specs.Packet.{Packet, Request, Nak, Other, packet_of, packet_with}
+use Rattle.ppp_auto.specs.Taken.{Taken, input_of, kind, taken_as, taken_seen}
 
 -- whether Configure-Naks are counted anew: the line came up
 abbrev pub counts_anew : Input → AutoState → Bool
@@ -39,6 +46,13 @@ naks_after a input actions taken =
     else if refuses actions && is_nak taken.answer then min (a.naks + 1) MAX_FAILURE
     else a.naks
 
+-- the own list after a row that asks, where the negotiation begins or goes on, or doesn't ask
+abbrev pub own_after : Table → Bool → Bool → List ConfigOption → List ConfigOption → ℕ → List ConfigOption
+own_after t asked anew adapted own word = if asked then (if anew then t.initial word else adapted) else own
+
+abbrev pub own_renewed : Table → Bool → Bool → Option (List ConfigOption) → List ConfigOption → ℕ → List ConfigOption
+own_renewed t asked anew adapted own word = own_after t asked anew (unwrap_or adapted own) own word
+
 abbrev pub after : Table → Auto → Input → Cell → Taken → ℕ → Auto
 after t a input row taken word = record {
   state = row.next;
@@ -46,7 +60,7 @@ after t a input row taken word = record {
   naks = naks_after a input row.actions taken;
   next_id = if asks row.actions then (a.next_id + 1) % 256 else a.next_id;
   second = if draws row.actions then (a.second + 1) % 256 else a.second;
-  own = if asks row.actions then (if begins_anew a.state then t.initial word else taken.adapted) else a.own;
+  own = own_after t (asks row.actions) (begins_anew a.state) taken.adapted a.own word;
   peer = if acks row.actions then taken.theirs else a.peer;
   cap = a.cap;
 }
@@ -116,3 +130,60 @@ take_octets t a octets word = take_read t a (packet_of octets) word
 -- the entries of a step as the layer above sees them
 abbrev pub entries_of : Acted → List Entry
 entries_of acted = map entry_of acted.effects
+
+-- What octets come to, what a packet does that was read, what the options of a Configure-Request do in octets, what
+-- was taken in, and its row: the automaton after it, and the entries.
+abbrev pub auto_after : Table → Auto → List ℕ → ℕ → Auto
+auto_after t a octets word = (take_octets t a octets word).auto
+
+abbrev pub entries_after : Table → Auto → List ℕ → ℕ → List Entry
+entries_after t a octets word = entries_of (take_octets t a octets word)
+
+abbrev pub takes_packet : Table → Auto → PacketRef → ℕ → Acted
+takes_packet t a packet word = take_read t a (packet_with (packet_seen packet)) word
+
+abbrev pub auto_by_packet : Table → Auto → PacketRef → ℕ → Auto
+auto_by_packet t a packet word = (takes_packet t a packet word).auto
+
+abbrev pub entries_by_packet : Table → Auto → PacketRef → ℕ → List Entry
+entries_by_packet t a packet word = entries_of (takes_packet t a packet word)
+
+abbrev pub takes_options : Table → Auto → ℕ → List ℕ → ℕ → Acted
+takes_options t a id rest word = take_read t a (option_map (λ list. Request id list) (options_of rest)) word
+
+abbrev pub auto_by_options : Table → Auto → ℕ → List ℕ → ℕ → Auto
+auto_by_options t a id rest word = (takes_options t a id rest word).auto
+
+abbrev pub entries_by_options : Table → Auto → ℕ → List ℕ → ℕ → List Entry
+entries_by_options t a id rest word = entries_of (takes_options t a id rest word)
+
+abbrev pub auto_by_taken : Table → Auto → Kept → ℕ → Auto
+auto_by_taken t a taken word = (acts_as t a (taken_seen a.own taken) word).auto
+
+abbrev pub entries_by_taken : Table → Auto → Kept → ℕ → List Entry
+entries_by_taken t a taken word = entries_of (acts_as t a (taken_seen a.own taken) word)
+
+abbrev pub auto_by_row : Table → Auto → Input → Kept → ℕ → Auto
+auto_by_row t a input taken word = (does_row t a input (taken_seen a.own taken) word).auto
+
+abbrev pub entries_by_row : Table → Auto → Input → Kept → ℕ → List Entry
+entries_by_row t a input taken word = entries_of (does_row t a input (taken_seen a.own taken) word)
+
+-- the entries of one action, and of actions, as the code has them between the steps of a row
+abbrev pub entries_by : KeptAuto → Kept → Action → List Entry
+entries_by a taken action = map entry_of (effect_of (auto_seen a) (auto_seen a) (taken_seen a.own taken) action)
+
+abbrev pub all_entries_by : KeptAuto → Kept → List Action → List Entry
+all_entries_by a taken actions = map entry_of (effects (auto_seen a) (auto_seen a) (taken_seen a.own taken) actions)
+
+-- the automaton goes on by a cell, but for the Identifier of the next Terminate-Request or Code-Reject
+abbrev pub GoesOn : Table → Input → KeptCell → Kept → ℕ → KeptAuto → KeptAuto → Type 0
+GoesOn t input cell taken word old new =
+    auto_seen new ≡ record (after t (auto_seen old) input (cell_seen cell) (taken_seen old.own taken) word) { second = old.second }
+
+-- where a Configure-Ack is sent the peer's list can be kept
+abbrev pub CanKeep : KeptCell → Kept → Type 0
+CanKeep cell taken = acks (cell_seen cell).actions ≡ true → length (written (unwrap_or taken.theirs [])) ≤ 128
+
+abbrev pub naks_counted : KeptAuto → Input → KeptCell → Kept → ℕ
+naks_counted a input cell taken = naks_after (auto_seen a) input (cell_seen cell).actions (taken_seen a.own taken)

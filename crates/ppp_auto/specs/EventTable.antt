@@ -232,7 +232,10 @@ restart_at most n RepeatConfigureRequest = n - 1
 restart_at most n SendTerminateRequest = n - 1
 restart_at most n a = n
 
+abbrev pub most_sent : List Action → ℕ
+most_sent actions = if terminates actions then MAX_TERMINATE else MAX_CONFIGURE
+
 -- the restart counter after a cell's actions: it begins at Max-Terminate where a Terminate-Request is among them, else
 -- at Max-Configure
 abbrev pub restart_after : List Action → ℕ → ℕ
-restart_after actions n = fold (restart_at (if terminates actions then MAX_TERMINATE else MAX_CONFIGURE)) n actions
+restart_after actions n = fold (restart_at (most_sent actions)) n actions

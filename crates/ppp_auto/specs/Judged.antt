@@ -64,3 +64,7 @@ abbrev pub AreSettled : Table → List ConfigOption → Bool → ℕ → List Co
 AreSettled t own spent word theirs j =
     let judge : ConfigOption → Verdict = judging_by t own word in
     IsSettled spent (rejected judge [] theirs) (suggested judge theirs) (option_to_list (t.missing own theirs word)) (unacceptable judge theirs) j
+
+-- the same of the options alone
+abbrev pub AreJudgedBy : Table → List ConfigOption → Bool → ℕ → List ConfigOption → Judged → Type 0
+AreJudgedBy t own spent word theirs j = AreJudged (judging_by t own word) spent theirs j

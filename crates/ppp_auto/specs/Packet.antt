@@ -1,6 +1,7 @@
 -- Packets of the automaton (RFC 1661 section 5): codes 1 to 4 carry options, the others octets.
 use Rattle.std.specs.Prelude.{ℕ, ◌==◌, if◌then◌else◌, List, Option, Some}
 use Rattle.std.specs.Option.{option_map, option_and_then}
+use Rattle.ppp_packet.specs.declared.code.Code.{Code}
 use Rattle.ppp_packet.specs.declared.code.Code.TheVariants.{ConfigureRequest, ConfigureAck, ConfigureNak, ConfigureReject}
 use Rattle.ppp_packet.specs.Code.{code_number}
 use Rattle.ppp_packet.specs.ConfigOption.{ConfigOption}
@@ -14,12 +15,16 @@ pub data Packet : Type 0 where
   Reject : (id : ℕ) (options : List ConfigOption) → Packet
   Other : (code id : ℕ) (octets : List ℕ) → Packet
 
+-- the octets of a packet of that code
+abbrev pub coded_octets : Code → ℕ → List ℕ → List ℕ
+coded_octets code id rest = packet_octets (code_number code) id rest
+
 -- a packet in octets, without padding
 abbrev pub octets_of : Packet → List ℕ
-octets_of (Request id options) = packet_octets (code_number ConfigureRequest) id (written options)
-octets_of (Ack id options) = packet_octets (code_number ConfigureAck) id (written options)
-octets_of (Nak id options) = packet_octets (code_number ConfigureNak) id (written options)
-octets_of (Reject id options) = packet_octets (code_number ConfigureReject) id (written options)
+octets_of (Request id options) = coded_octets ConfigureRequest id (written options)
+octets_of (Ack id options) = coded_octets ConfigureAck id (written options)
+octets_of (Nak id options) = coded_octets ConfigureNak id (written options)
+octets_of (Reject id options) = coded_octets ConfigureReject id (written options)
 octets_of (Other code id octets) = packet_octets code id octets
 
 -- the packet of a header and what follows it: None where the options of codes 1 to 4 can't be read

@@ -1,23 +1,27 @@
 -- What a packet, or an event without one, is to an automaton (RFC 1661 sections 4.3 and 5).
 use Rattle.std.specs.Prelude.{◌≡◌, ◌≤◌, ℕ, ◌+◌, ◌-◌, ◌*◌, ◌/◌, ◌%◌, ◌^◌, Bool, ◌&&◌, ◌||◌, ◌==◌, nat_lt, nat_le, if◌then◌else◌, List, [], ◌∷◌, ◌++◌, length, take, drop, Option, Some, None}
-use Rattle.std.specs.Option.{unwrap_or}
+use Rattle.std.specs.Option.{option_map, unwrap_or}
 use Rattle.ppp_packet.specs.declared.code.Code.TheVariants.{ConfigureRequest, TerminateRequest, TerminateAck, CodeReject, ProtocolReject, EchoRequest, EchoReply, DiscardRequest}
 use Rattle.ppp_packet.specs.Code.{code_number}
 use Rattle.ppp_packet.specs.ConfigOption.{ConfigOption}
 use Rattle.ppp_packet.specs.Options.{written}
-use Rattle.ppp_packet.specs.Packet.{packet_octets}
+use Rattle.ppp_packet.specs.Packet.{RawPacket, packet_octets}
 use Rattle.ppp_auto.specs.declared.auto_state.AutoState.{AutoState}
 use Rattle.ppp_auto.specs.declared.auto_state.AutoState.TheVariants.{Opened}
 use Rattle.ppp_auto.specs.declared.auto_event.AutoEvent.{AutoEvent}
 use Rattle.ppp_auto.specs.declared.auto_event.AutoEvent.TheVariants as event
 use Rattle.ppp_auto.specs.declared.input.Input.{Input}
 use Rattle.ppp_auto.specs.declared.input.Input.TheVariants as on
+use Rattle.ppp_auto.specs.declared.auto.Auto.{Auto as KeptAuto}
+use Rattle.ppp_auto.specs.declared.judged.Judged.{Judged}
+use Rattle.ppp_auto.specs.declared.reply.Reply.{Reply as KeptReply}
 use Rattle.ppp_auto.specs.declared.taken.Taken.{Taken as Kept}
 use Rattle.ppp_auto.specs.declared.taken.TheConstants.{HEADER, MAGIC}
-use Rattle.ppp_auto.specs.Auto.{Auto, last_id, is_idle, is_stopped}
+use Rattle.ppp_auto.specs.Auto.{Auto, auto_seen, is_idle, is_stopped, last_id}
+use Rattle.ppp_auto.specs.Judged.{AreSettled}
 use Rattle.ppp_auto.specs.OptionTable.{Table}
-use Rattle.ppp_auto.specs.Packet.{Packet, Request, Ack, Nak, Reject, Other}
-use Rattle.ppp_auto.specs.Reply.{same_list, is_sublist, has_options, Reply, reply_to}
+use Rattle.ppp_auto.specs.Packet.{Packet, Request, Ack, Nak, Reject, Other, packet_with}
+use Rattle.ppp_auto.specs.Reply.{Reply, has_options, is_spent, is_sublist, reply_seen, reply_to, same_list}
 
 pub record Taken : Type 0 where
   -- the event of the table, if it is one
@@ -61,6 +65,9 @@ request_taken a id theirs reply = record (taken_as a (Some reply.input) id) { an
 -- A Configure-Ack counts where it repeats the last request.
 abbrev pub is_ack_of : Auto → ℕ → List ConfigOption → Bool
 is_ack_of a id options = is_idle a.state || ((id == last_id a) && same_list options a.own)
+
+abbrev pub ack_taken : Auto → ℕ → List ConfigOption → Taken
+ack_taken a id options = taken_as a (if is_ack_of a id options then Some on.ReceiveConfigureAck else None) id
 
 abbrev pub is_nak_of : Auto → ℕ → List ConfigOption → Bool
 is_nak_of a id options = has_options options && (is_idle a.state || (id == last_id a))
@@ -117,7 +124,7 @@ other_taken t a code id octets =
 -- What a packet is.
 abbrev pub kind : Table → Auto → Packet → ℕ → Taken
 kind t a (Request id theirs) word = request_taken a id theirs (reply_to t (judging t a word) a.naks word id theirs)
-kind t a (Ack id options) word = taken_as a (if is_ack_of a id options then Some on.ReceiveConfigureAck else None) id
+kind t a (Ack id options) word = ack_taken a id options
 kind t a (Nak id options) word = nak_taken a (is_nak_of a id options) id (t.adapt_nak a.own options word)
 kind t a (Reject id options) word = nak_taken a (is_reject_of a id options) id (t.adapt_reject a.own options word)
 kind t a (Other code id octets) word = other_taken t a code id octets
@@ -131,3 +138,36 @@ input_of a event.AdminClose = on.Close
 input_of a event.Timeout = if nat_lt 0 a.restart then on.TimeoutAboveZero else on.TimeoutExpired
 input_of a event.RejectedWell = on.ReceiveRejectPermitted
 input_of a event.RejectedBadly = on.ReceiveRejectCatastrophic
+
+-- what the code takes a packet for, which it has read or has the header of and what follows it
+abbrev pub IsKind : Table → KeptAuto → Packet → ℕ → Kept → Type 0
+IsKind t a packet word taken = taken_seen a.own taken ≡ kind t (auto_seen a) packet word
+
+abbrev pub IsKindOfRaw : Table → KeptAuto → RawPacket → ℕ → Option Kept → Type 0
+IsKindOfRaw t a raw word taken = option_map (taken_seen a.own) taken ≡ option_map (λ p. kind t (auto_seen a) p word) (packet_with raw)
+
+abbrev pub IsOther : Table → KeptAuto → RawPacket → Kept → Type 0
+IsOther t a raw taken = taken_seen a.own taken ≡ other_taken t (auto_seen a) raw.code raw.id raw.rest
+
+abbrev pub IsExtended : Table → KeptAuto → RawPacket → Kept → Type 0
+IsExtended t a raw taken = taken_seen a.own taken ≡ extended_taken t (auto_seen a) raw.code raw.id raw.rest
+
+abbrev pub AnswersEcho : Table → KeptAuto → RawPacket → Option Packet → Type 0
+AnswersEcho t a raw answer = answer ≡ echo_answer t (auto_seen a) raw.code raw.id raw.rest
+
+-- whatever the own list is
+abbrev pub IsPlain : Option Input → ℕ → Kept → Type 0
+IsPlain input id taken = (own : List ConfigOption) → taken_seen own taken ≡ taken_plain own input id
+
+abbrev pub IsAdapting : ℕ → List ConfigOption → Kept → Type 0
+IsAdapting id list taken = (own : List ConfigOption) → taken_seen own taken ≡ record (taken_plain own (Some on.ReceiveConfigureNak) id) { adapted = list }
+
+abbrev pub IsUnknown : ℕ → List ℕ → Kept → Type 0
+IsUnknown id whole taken = (own : List ConfigOption) → taken_seen own taken ≡ record (taken_plain own (Some on.ReceiveUnknownCode) id) { whole = whole }
+
+-- the options of a request were judged against the list that it is judged against
+abbrev pub IsRequestSettled : Table → KeptAuto → List ConfigOption → ℕ → Judged → Type 0
+IsRequestSettled t a theirs word j = AreSettled t (judging t (auto_seen a) word) (is_spent a.naks) word theirs j
+
+abbrev pub RepliesTo : Table → KeptAuto → ℕ → List ConfigOption → ℕ → KeptReply → Type 0
+RepliesTo t a id theirs word reply = reply_seen reply ≡ reply_to t (judging t (auto_seen a) word) a.naks word id theirs

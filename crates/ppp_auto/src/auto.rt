@@ -1,10 +1,11 @@
-//! One automaton without its table, and how a row of the event table changes it (RFC 1661 sections 4.1 and 4.6).
+//! One automaton without its table, and how a row of the event table changes it (RFC 1661 sections 4.1
+//! and 4.6).
 
 ghost use Rattle.std.specs.Prelude.{◌≡◌, ◌+◌, ◌%◌, ◌≤◌, [], length, min, if◌then◌else◌, true, IfSome, Some};
 ghost use Rattle.std.specs.Option.{unwrap_or};
 ghost use Rattle.ppp_packet.specs.Options.{written};
 ghost use Rattle.ppp_auto.specs.Auto.{auto_seen, begins_anew, begun, IsAuto, last_id};
-ghost use Rattle.ppp_auto.specs.Automaton.{after, counts_anew, is_nak, naks_after};
+ghost use Rattle.ppp_auto.specs.Automaton.{CanKeep, counts_anew, GoesOn, is_nak, naks_counted, own_renewed};
 ghost use Rattle.ppp_auto.specs.EventTable.{acks, cell_seen};
 ghost use Rattle.ppp_auto.specs.Taken.{IsFit, taken_seen};
 ghost use Rattle.ppp_auto.specs.declared.reply.TheConstants.{MAX_FAILURE};
@@ -80,8 +81,8 @@ impl Auto {
     )
         requires holds { IsAuto (T.sendable table.now) self.old }
         requires adapted { IfSome taken.now.adapted (T.sendable table.now) }
-        requires short { acks (cell_seen cell.now).actions ≡ true → length (written (unwrap_or taken.now.theirs [])) ≤ 128 }
-        ensures value { auto_seen self.new ≡ record (after (T.table table.now) (auto_seen self.old) input (cell_seen cell.now) (taken_seen self.old.own taken.now) word) { second = self.old.second } }
+        requires short { CanKeep cell.now taken.now }
+        ensures value { GoesOn (T.table table.now) input cell.now taken.now word self.old self.new }
         ensures holds { IsAuto (T.sendable table.now) self.new }
     {
         let asks = cell.asks();
@@ -96,7 +97,7 @@ impl Auto {
 
     /// The count of Configure-Naks after a row: it begins anew where the line came up, and with each Configure-Ack.
     fn count_naks(&self, input: Input, cell: &Cell, taken: &Taken<'_, '_>) -> u8
-        ensures { result ≡ naks_after (auto_seen self.now) input (cell_seen cell.now).actions (taken_seen self.now.own taken.now) }
+        ensures { result ≡ naks_counted self.now input cell.now taken.now }
     {
         if counts_anew(input, self.state) || cell.acks() {
             0
@@ -167,7 +168,7 @@ fn renew<T: OptionTable>(
 )
     requires own { T.sendable table.now own.old }
     requires adapted { IfSome adapted.now (T.sendable table.now) }
-    ensures value { own.new ≡ (if asks then (if anew then (T.table table.now).initial word else unwrap_or adapted.now own.old) else own.old) }
+    ensures value { own.new ≡ own_renewed (T.table table.now) asks anew adapted.now own.old word }
     ensures sendable { T.sendable table.now own.new }
 {
     if !asks {

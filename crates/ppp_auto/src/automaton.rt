@@ -6,7 +6,7 @@ ghost use Rattle.ppp_packet.specs.Options.{options_of};
 ghost use Rattle.ppp_packet.specs.Packet.{packet_octets};
 ghost use Rattle.ppp_packet.specs.PacketRef.{packet_seen};
 ghost use Rattle.ppp_auto.specs.Auto.{auto_seen, begun, is_off, is_stopped, is_timed, IsCap, mine_of, peer_of};
-ghost use Rattle.ppp_auto.specs.Automaton.{answering, acts_as, command, does_row, effect_of, effects, entries_of, take_octets, take_read, tells_rejected};
+ghost use Rattle.ppp_auto.specs.Automaton.{all_entries_by, answering, auto_after, auto_by_options, auto_by_packet, auto_by_row, auto_by_taken, command, entries_after, entries_by, entries_by_options, entries_by_packet, entries_by_row, entries_by_taken, entries_of, tells_rejected};
 ghost use Rattle.ppp_auto.specs.Outbox.{entry_of};
 ghost use Rattle.ppp_auto.specs.Packet.{packet_with, Request};
 ghost use Rattle.ppp_auto.specs.Taken.{input_of, IsFit, judging, taken_as, taken_seen};
@@ -75,8 +75,8 @@ impl<T: OptionTable> Automaton<T> {
     /// are no packet of the protocol change nothing, and in Initial and Starting none does.
     pub fn packet(&mut self, bytes: &[u8], word: u64, out: &mut Outbox)
         ensures table { self.new.0 ≡ self.old.0 }
-        ensures auto { self.new.1 ≡ (take_octets (T.table self.old.0) self.old.1 bytes.now word).auto }
-        ensures out { out.new ≡ entries_of (take_octets (T.table self.old.0) self.old.1 bytes.now word) }
+        ensures auto { self.new.1 ≡ auto_after (T.table self.old.0) self.old.1 bytes.now word }
+        ensures out { out.new ≡ entries_after (T.table self.old.0) self.old.1 bytes.now word }
         ensures off { is_off self.old.1.state ≡ true → self.new.1 ≡ self.old.1 }
         ensures quiet { is_off self.old.1.state ≡ true → out.new ≡ [] }
     {
@@ -95,8 +95,8 @@ impl<T: OptionTable> Automaton<T> {
         requires empty { out.old ≡ [] }
         requires whole { whole.now ≡ packet_octets packet.code packet.id packet.rest.now }
         ensures table { self.new.0 ≡ self.old.0 }
-        ensures auto { self.new.1 ≡ (take_read (T.table self.old.0) self.old.1 (packet_with (packet_seen packet.entry)) word).auto }
-        ensures out { out.new ≡ entries_of (take_read (T.table self.old.0) self.old.1 (packet_with (packet_seen packet.entry)) word) }
+        ensures auto { self.new.1 ≡ auto_by_packet (T.table self.old.0) self.old.1 packet.entry word }
+        ensures out { out.new ≡ entries_by_packet (T.table self.old.0) self.old.1 packet.entry word }
     {
         if packet.code == Code::ConfigureRequest.number() {
             self.take_request(packet.id, packet.rest, word, out);
@@ -109,8 +109,8 @@ impl<T: OptionTable> Automaton<T> {
     fn take_request(&mut self, id: u8, rest: &[u8], word: u64, out: &mut Outbox)
         requires { out.old ≡ [] }
         ensures table { self.new.0 ≡ self.old.0 }
-        ensures auto { self.new.1 ≡ (take_read (T.table self.old.0) self.old.1 (option_map (λ list. Request id list) (options_of rest.now)) word).auto }
-        ensures out { out.new ≡ entries_of (take_read (T.table self.old.0) self.old.1 (option_map (λ list. Request id list) (options_of rest.now)) word) }
+        ensures auto { self.new.1 ≡ auto_by_options (T.table self.old.0) self.old.1 id rest.now word }
+        ensures out { out.new ≡ entries_by_options (T.table self.old.0) self.old.1 id rest.now word }
     {
         let Some(theirs) = read_options(rest) else {
             return;
@@ -126,8 +126,8 @@ impl<T: OptionTable> Automaton<T> {
         requires empty { out.old ≡ [] }
         requires fit { IsFit (T.sendable self.old.0) (taken_seen self.old.1.own taken.now) }
         ensures table { self.new.0 ≡ self.old.0 }
-        ensures auto { self.new.1 ≡ (acts_as (T.table self.old.0) self.old.1 (taken_seen self.old.1.own taken.now) word).auto }
-        ensures out { out.new ≡ entries_of (acts_as (T.table self.old.0) self.old.1 (taken_seen self.old.1.own taken.now) word) }
+        ensures auto { self.new.1 ≡ auto_by_taken (T.table self.old.0) self.old.1 taken.now word }
+        ensures out { out.new ≡ entries_by_taken (T.table self.old.0) self.old.1 taken.now word }
     {
         match taken.input {
             Some(input) => self.do_row(input, taken, word, out),
@@ -141,8 +141,8 @@ impl<T: OptionTable> Automaton<T> {
         requires input { taken.now.input ≡ Some input }
         requires fit { IsFit (T.sendable self.old.0) (taken_seen self.old.1.own taken.now) }
         ensures table { self.new.0 ≡ self.old.0 }
-        ensures auto { self.new.1 ≡ (does_row (T.table self.old.0) self.old.1 input (taken_seen self.old.1.own taken.now) word).auto }
-        ensures out { out.new ≡ entries_of (does_row (T.table self.old.0) self.old.1 input (taken_seen self.old.1.own taken.now) word) }
+        ensures auto { self.new.1 ≡ auto_by_row (T.table self.old.0) self.old.1 input taken.now word }
+        ensures out { out.new ≡ entries_by_row (T.table self.old.0) self.old.1 input taken.now word }
     {
         let cell = Cell::of(input, self.auto.state);
         self.auto.go_on(&self.table, input, &cell, taken, word);
@@ -202,13 +202,6 @@ impl<T: OptionTable> Automaton<T> {
         }
     }
 
-    /// The own list: that of the last Configure-Request, or of the first before it was sent.
-    pub fn own(&self) -> &OptList
-        ensures { result.now ≡ self.now.1.own }
-    {
-        &self.auto.own
-    }
-
     /// The table.
     pub fn table(&self) -> &T
         ensures { result.now ≡ self.now.0 }
@@ -239,7 +232,7 @@ fn emit_all(out: &mut Outbox, actions: &[Action], auto: &Auto, taken: &Taken<'_,
     requires empty { out.old ≡ [] }
     requires few { length actions.now ≤ 4 }
     requires cap { IsCap auto.now.cap }
-    ensures { out.new ≡ map entry_of (effects (auto_seen auto.now) (auto_seen auto.now) (taken_seen auto.now.own taken.now) actions.now) }
+    ensures { out.new ≡ all_entries_by auto.now taken.now actions.now }
 {
     'actions: for action in actions {
         emit(out, *action, auto, taken);
@@ -250,7 +243,7 @@ fn emit_all(out: &mut Outbox, actions: &[Action], auto: &Auto, taken: &Taken<'_,
 fn emit(out: &mut Outbox, action: Action, auto: &Auto, taken: &Taken<'_, '_>)
     requires few { length out.old < 4 }
     requires cap { IsCap auto.now.cap }
-    ensures entries { out.new ≡ out.old ++ map entry_of (effect_of (auto_seen auto.now) (auto_seen auto.now) (taken_seen auto.now.own taken.now) action) }
+    ensures entries { out.new ≡ out.old ++ entries_by auto.now taken.now action }
     ensures few { length out.new ≤ length out.old + 1 }
 {
     match action {

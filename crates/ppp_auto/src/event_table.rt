@@ -1,8 +1,7 @@
 //! The event table (RFC 1661 section 4.1).
 
-ghost use Rattle.std.specs.Prelude.{◌≡◌, if◌then◌else◌};
-ghost use Rattle.ppp_auto.specs.EventTable.{cell_seen, goes, stays, cell_of, on_up, on_down, on_open, on_close, on_timeout_above_zero, on_timeout_expired, on_request_good, on_request_bad, on_ack, on_nak, on_terminate_request, on_terminate_ack, on_unknown_code, on_rejected_well, on_rejected_badly, on_echo, asks, acks, refuses, draws, terminates, is_drawing, restart_at, restart_after};
-ghost use Rattle.ppp_auto.specs.declared.event_table.TheConstants.{MAX_CONFIGURE, MAX_TERMINATE};
+ghost use Rattle.std.specs.Prelude.{◌≡◌};
+ghost use Rattle.ppp_auto.specs.EventTable.{cell_seen, goes, stays, cell_of, on_up, on_down, on_open, on_close, on_timeout_above_zero, on_timeout_expired, on_request_good, on_request_bad, on_ack, on_nak, on_terminate_request, on_terminate_ack, on_unknown_code, on_rejected_well, on_rejected_badly, on_echo, asks, acks, refuses, draws, most_sent, is_drawing, restart_at, restart_after};
 
 use crate::action::Action::{
     self, InitializeRestartCount as Irc, RepeatConfigureRequest as ScrAgain, SendCodeReject as Scj,
@@ -84,7 +83,7 @@ impl Cell {
 
     /// Where the restart counter begins anew: at Max-Terminate where a Terminate-Request is sent, else at Max-Configure.
     fn most(&self) -> u8
-        ensures { result ≡ (if terminates (cell_seen self.now).actions then MAX_TERMINATE else MAX_CONFIGURE) }
+        ensures { result ≡ most_sent (cell_seen self.now).actions }
     {
         if self.actions.contains(&Str) {
             MAX_TERMINATE

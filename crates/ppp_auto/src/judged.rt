@@ -4,7 +4,7 @@ ghost use Rattle.std.specs.Prelude.{◌≡◌, ◌<◌, ◌≤◌, ◌||◌, ◌
 ghost use Rattle.std.specs.Option.{option_to_list};
 ghost use Rattle.ppp_packet.specs.ConfigOption.{ConfigOption};
 ghost use Rattle.ppp_packet.specs.OptRef.{option_seen};
-ghost use Rattle.ppp_auto.specs.Judged.{AreJudged, AreSettled, CorrectsOne, IsJudged, judging_by, JudgesOne, RefusesOne};
+ghost use Rattle.ppp_auto.specs.Judged.{AreJudgedBy, AreSettled, CorrectsOne, IsJudged, judging_by, JudgesOne, RefusesOne};
 ghost use Rattle.ppp_auto.specs.Reply.{is_refused, rejected, suggested, unacceptable};
 
 use crate::front::Front;
@@ -61,7 +61,7 @@ impl Judged {
     /// Judges the options of a request against the own list, one after another.
     fn judge<T: OptionTable>(&mut self, table: &T, own: &OptList, theirs: &Options<'_>, word: u64)
         requires { IsJudged self.old.spent [] [] [] self.old }
-        ensures { AreJudged (judging_by (T.table table.now) own.now word) self.old.spent theirs.now self.new }
+        ensures { AreJudgedBy (T.table table.now) own.now self.old.spent word theirs.now self.new }
     {
         let mut seen = [false; 256];
         let mut left = theirs.copied();

@@ -1,5 +1,13 @@
-//! The option negotiation automaton of PPP (RFC 1661 section 4), generic over a table of options. No call but
-//! `Outbox::new` takes memory.
+//! The option negotiation automaton of PPP (RFC 1661 sections 4 to 6), generic over a table of options.
+//!
+//! An `Automaton` is one end of one protocol. What it negotiates is an `OptionTable`, which answers for a peer's option
+//! with a `Verdict`. It is driven by two calls: `event` for what happens without a packet, and `packet` for the octets
+//! of one. Each empties an `Outbox` and puts into it, in order, the packets to send and what the layers beside are
+//! told, at most four entries; the caller sends and tells them before the next call. `timer_on` says after each call
+//! whether the restart timer has to run, whose firing is `AutoEvent::Timeout`. `state`, `mine` and `peer` read what is
+//! granted, and `set_cap` bounds Code-Rejects and Echo-Replies.
+//!
+//! Left out: the timer itself, queues, authentication and every option. No call but `Outbox::new` takes memory.
 #![tactic(auto)]
 
 mod action;

@@ -1,9 +1,8 @@
 //! What a step of the automaton sends and tells.
 
 ghost use Rattle.std.specs.Prelude.{◌≡◌, ◌+◌, ◌<◌, ◌≤◌, [], ◌∷◌, ◌++◌, length, vec_len, vec_capacity, map, take, drop, ◌-◌, IfOk, Some, slice_get};
-ghost use Rattle.ppp_packet.specs.Packet.{packet_octets};
+ghost use Rattle.ppp_auto.specs.Packet.{coded_octets};
 ghost use Rattle.ppp_auto.specs.Outbox.{entry_seen, slot_seen, AreWithin, IsShort};
-ghost use Rattle.ppp_packet.specs.Code.{code_number};
 ghost use Rattle.ppp_auto.specs.declared.outbox.TheConstants.{MOST_REST};
 ghost use Rattle.ppp_auto.specs.declared.taken.TheConstants.{HEADER};
 
@@ -123,7 +122,7 @@ impl Outbox {
     pub(crate) fn send(&mut self, code: Code, id: u8, rest: &[u8])
         requires few { length self.old < 4 }
         requires size { length rest.now ≤ MOST_REST }
-        ensures { self.new ≡ self.old ++ Send (packet_octets (code_number code) id rest.now) ∷ [] }
+        ensures { self.new ≡ self.old ++ Send (coded_octets code id rest.now) ∷ [] }
     {
         let start = self.octets.len();
         put_packet(&mut self.octets, code, id, rest);
@@ -135,7 +134,7 @@ impl Outbox {
 fn put_packet(octets: &mut Vec<u8>, code: Code, id: u8, rest: &[u8])
     requires size { length rest.now ≤ MOST_REST }
     requires room { vec_len octets.old + (HEADER + length rest.now) ≤ vec_capacity octets.old }
-    ensures octets { octets.new.items ≡ octets.old.items ++ packet_octets (code_number code) id rest.now }
+    ensures octets { octets.new.items ≡ octets.old.items ++ coded_octets code id rest.now }
     ensures size { vec_len octets.new ≡ vec_len octets.old + (HEADER + length rest.now) }
     ensures capacity { vec_capacity octets.old ≤ vec_capacity octets.new }
 {

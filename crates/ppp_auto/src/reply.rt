@@ -5,7 +5,7 @@ ghost use Rattle.ppp_packet.specs.Options.{written};
 ghost use Rattle.ppp_auto.specs.Auto.{auto_seen};
 ghost use Rattle.ppp_auto.specs.Judged.{AreSettled};
 ghost use Rattle.ppp_auto.specs.Reply.{is_spent, reply_seen, reply_to};
-ghost use Rattle.ppp_auto.specs.Taken.{judging};
+ghost use Rattle.ppp_auto.specs.Taken.{IsRequestSettled, RepliesTo};
 
 use crate::answer::Answer;
 use crate::auto::Auto;
@@ -36,8 +36,8 @@ pub(crate) fn reply_to<'j, T: OptionTable>(
 ) -> Reply<'j>
     requires sendable { T.sendable table.now auto.now.own }
     requires octets { octets.now ≡ written theirs.now }
-    requires settled { AreSettled (T.table table.now) (judging (T.table table.now) (auto_seen auto.now) word) (is_spent auto.now.naks) word theirs.now judged.now }
-    ensures { reply_seen result ≡ reply_to (T.table table.now) (judging (T.table table.now) (auto_seen auto.now) word) auto.now.naks word id theirs.now }
+    requires settled { IsRequestSettled (T.table table.now) auto.now theirs.now word judged.now }
+    ensures { RepliesTo (T.table table.now) auto.now id theirs.now word result }
 {
     if judged.rejects() {
         return Reply {

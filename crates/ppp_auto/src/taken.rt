@@ -9,10 +9,10 @@ ghost use Rattle.ppp_packet.specs.Packet.{packet_octets};
 ghost use Rattle.ppp_packet.specs.PacketRef.{packet_seen};
 ghost use Rattle.ppp_packet.specs.OptRef.{option_seen};
 ghost use Rattle.ppp_auto.specs.Auto.{auto_seen, is_idle, IsCap};
-ghost use Rattle.ppp_auto.specs.Packet.{Request, Nak, Reject, packet_with};
-ghost use Rattle.ppp_auto.specs.Judged.{AreSettled, IsJudged};
+ghost use Rattle.ppp_auto.specs.Packet.{Request, Nak, Reject};
+ghost use Rattle.ppp_auto.specs.Judged.{IsJudged};
 ghost use Rattle.ppp_auto.specs.Reply.{is_spent, is_sublist, same_list, same_option, after_one};
-ghost use Rattle.ppp_auto.specs.Taken.{code_reject_input, echo_answer, extended_taken, input_of, is_ack_of, is_extended_code, is_nak_of, is_reject_of, judging, kind, other_taken, rejected_protocol, taken_as, taken_plain, taken_seen, unknown_taken};
+ghost use Rattle.ppp_auto.specs.Taken.{ack_taken, AnswersEcho, code_reject_input, input_of, is_ack_of, is_extended_code, is_nak_of, is_reject_of, IsAdapting, IsExtended, IsKind, IsKindOfRaw, IsOther, IsPlain, IsRequestSettled, IsUnknown, rejected_protocol, taken_seen};
 
 use crate::answer::Answer;
 use crate::auto::{Auto, first_list};
@@ -56,7 +56,7 @@ pub(crate) struct Taken<'p, 'j> {
 impl<'p, 'j> Taken<'p, 'j> {
     /// What has no more to it than an Identifier.
     pub(crate) fn plain(input: Option<Input>, id: u8) -> Taken<'p, 'j>
-        ensures { (own : List ConfigOption) → taken_seen own result ≡ taken_plain own input id }
+        ensures { IsPlain input id result }
     {
         Taken {
             input,
@@ -73,7 +73,7 @@ impl<'p, 'j> Taken<'p, 'j> {
 impl<'p, 'j> Taken<'p, 'j> {
     /// A Configure-Nak or Configure-Reject of the last request, which leads to that own list.
     fn adapting(id: u8, list: OptList) -> Taken<'p, 'j>
-        ensures { (own : List ConfigOption) → taken_seen own result ≡ record (taken_plain own (Some Input.ReceiveConfigureNak) id) { adapted = list } }
+        ensures { IsAdapting id list result }
     {
         Taken {
             input: Some(Input::ReceiveConfigureNak),
@@ -111,8 +111,8 @@ pub(crate) fn judge_request<T: OptionTable>(
     theirs: &Options<'_>,
     word: u64,
 )
-    requires { IsJudged judged.old.spent [] [] [] judged.old }
-    ensures { AreSettled (T.table table.now) (judging (T.table table.now) (auto_seen auto.now) word) judged.old.spent word theirs.now judged.new }
+    requires { IsJudged (is_spent auto.now.naks) [] [] [] judged.old }
+    ensures { IsRequestSettled (T.table table.now) auto.now theirs.now word judged.new }
 {
     if auto.state == AutoState::Stopped {
         judged.settle(table, &first_list(table, word), theirs, word);
@@ -133,8 +133,8 @@ pub(crate) fn request_taken<'p, 'j, T: OptionTable>(
 ) -> Taken<'p, 'j>
     requires sendable { T.sendable table.now auto.now.own }
     requires octets { octets.now ≡ written theirs.now }
-    requires settled { AreSettled (T.table table.now) (judging (T.table table.now) (auto_seen auto.now) word) (is_spent auto.now.naks) word theirs.now judged.now }
-    ensures { taken_seen auto.now.own result ≡ kind (T.table table.now) (auto_seen auto.now) (Request id theirs.now) word }
+    requires settled { IsRequestSettled (T.table table.now) auto.now theirs.now word judged.now }
+    ensures { IsKind (T.table table.now) auto.now (Request id theirs.now) word result }
 {
     let reply = reply_to(table, auto, judged, id, theirs, octets, word);
     Taken {
@@ -159,7 +159,7 @@ pub(crate) fn packet_taken<'a, T: OptionTable>(
     requires other { packet.code ≢ code_number ConfigureRequest }
     requires whole { whole.now ≡ packet_octets packet.code packet.id packet.rest.now }
     requires cap { IsCap auto.now.cap }
-    ensures { option_map (taken_seen auto.now.own) result ≡ option_map (λ p. kind (T.table table.now) (auto_seen auto.now) p word) (packet_with (packet_seen packet.entry)) }
+    ensures { IsKindOfRaw (T.table table.now) auto.now (packet_seen packet.entry) word result }
 {
     let code = packet.code;
     if code == Code::ConfigureAck.number() {
@@ -175,7 +175,7 @@ pub(crate) fn packet_taken<'a, T: OptionTable>(
 
 /// What a Configure-Ack is.
 fn ack_taken<'a>(auto: &Auto, id: u8, options: &Options<'_>) -> Taken<'a, 'a>
-    ensures { taken_seen auto.now.own result ≡ taken_as (auto_seen auto.now) (if is_ack_of (auto_seen auto.now) id options.now then Some Input.ReceiveConfigureAck else None) id }
+    ensures { taken_seen auto.now.own result ≡ ack_taken (auto_seen auto.now) id options.now }
 {
     if is_ack_of(auto, id, options) {
         Taken::plain(Some(Input::ReceiveConfigureAck), id)
@@ -192,7 +192,7 @@ fn nak_taken<'a, T: OptionTable>(
     options: &Options<'_>,
     word: u64,
 ) -> Taken<'a, 'a>
-    ensures { taken_seen auto.now.own result ≡ kind (T.table table.now) (auto_seen auto.now) (Nak id options.now) word }
+    ensures { IsKind (T.table table.now) auto.now (Nak id options.now) word result }
 {
     if !is_nak_of(auto, id, options) {
         return Taken::plain(None, id);
@@ -208,7 +208,7 @@ fn reject_taken<'a, T: OptionTable>(
     options: &Options<'_>,
     word: u64,
 ) -> Taken<'a, 'a>
-    ensures { taken_seen auto.now.own result ≡ kind (T.table table.now) (auto_seen auto.now) (Reject id options.now) word }
+    ensures { IsKind (T.table table.now) auto.now (Reject id options.now) word result }
 {
     if !is_reject_of(auto, id, options) {
         return Taken::plain(None, id);
@@ -292,7 +292,7 @@ fn other_taken<'a, T: OptionTable>(
 ) -> Taken<'a, 'a>
     requires whole { whole.now ≡ packet_octets packet.code packet.id packet.rest.now }
     requires cap { IsCap auto.now.cap }
-    ensures { taken_seen auto.now.own result ≡ other_taken (T.table table.now) (auto_seen auto.now) packet.entry.code packet.entry.id packet.entry.rest.now }
+    ensures { IsOther (T.table table.now) auto.now (packet_seen packet.entry) result }
 {
     let code = packet.code;
     if code == Code::TerminateRequest.number() {
@@ -329,7 +329,7 @@ fn is_extended_code(code: u8) -> bool
 
 /// What a packet is with a code that isn't known.
 fn unknown_taken<'a>(id: u8, whole: &'a [u8]) -> Taken<'a, 'a>
-    ensures { (own : List ConfigOption) → taken_seen own result ≡ record (taken_plain own (Some Input.ReceiveUnknownCode) id) { whole = whole.now } }
+    ensures { IsUnknown id whole.now result }
 {
     let mut taken = Taken::plain(Some(Input::ReceiveUnknownCode), id);
     taken.whole = whole;
@@ -343,7 +343,7 @@ fn extended_taken<'a, T: OptionTable>(
     packet: PacketRef<'a>,
 ) -> Taken<'a, 'a>
     requires { IsCap auto.now.cap }
-    ensures { taken_seen auto.now.own result ≡ extended_taken (T.table table.now) (auto_seen auto.now) packet.entry.code packet.entry.id packet.entry.rest.now }
+    ensures { IsExtended (T.table table.now) auto.now (packet_seen packet.entry) result }
 {
     if packet.code == Code::ProtocolReject.number() {
         let mut taken = Taken::plain(None, packet.id);
@@ -377,7 +377,7 @@ fn echo_answer<'a, T: OptionTable>(
 ) -> Option<Answer<'a>>
     requires cap { IsCap auto.now.cap }
     requires magic { MAGIC ≤ length packet.rest.now }
-    ensures { result ≡ echo_answer (T.table table.now) (auto_seen auto.now) packet.entry.code packet.entry.id packet.entry.rest.now }
+    ensures { AnswersEcho (T.table table.now) auto.now (packet_seen packet.entry) result }
 {
     if packet.code != Code::EchoRequest.number() {
         return None;

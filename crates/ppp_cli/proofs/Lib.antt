@@ -1,2 +1,2 @@
-pub mod Agreed
-pub mod Puts
+pub mod AgreementLemmas
+pub mod AnswerLemmas

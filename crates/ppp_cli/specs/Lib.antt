@@ -1,7 +1,8 @@
-pub mod Answers
-pub mod Codes
-pub mod Reading
-pub mod Replied
+pub mod Agreement
+pub mod Answer
+pub mod Command
+pub mod Input
+pub mod Output
+pub mod Process
 pub mod Reply
-pub mod Words
-pub mod Writing
+pub mod Status

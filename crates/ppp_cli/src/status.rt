@@ -23,7 +23,7 @@ pub enum Status {
 
 impl Status {
     ghost use Rattle.std.specs.Prelude.{◌≡◌};
-    ghost use Rattle.ppp_cli.specs.Codes.{code_of};
+    ghost use Rattle.ppp_cli.specs.Status.{code_of};
 
     /// The number that the process exits with.
     pub fn code(&self) -> u8

@@ -17,7 +17,7 @@ use Rattle.ppp_auto.specs.OptionTable.{Table}
 
 pub record End : Type 0 where
   pub auto : Auto
-  -- how many Configure-Requests it has sent
+  -- the ordinal of its last Configure-Request, 0 before the first; one that repeats the last has its ordinal
   pub n : ℕ
   -- the ordinal of the peer's last request that it took in outside Initial and Starting
   pub got : ℕ

@@ -25,8 +25,8 @@ abbrev pub least : ℕ → List ℕ → ℕ
 least n [] = n
 least n (m ∷ ms) = min m (least n ms)
 
--- The span of an end that has sent n requests: n less the least ordinal of a request of its own that is under way
--- itself, or whose answer is; 0 where none is.
+-- The span of an end whose last request has the ordinal n: n less the least ordinal of a request of its own of which a
+-- copy, or the answer to one, is under way; 0 where none is.
 abbrev pub span_of : ℕ → List Marked → List Marked → ℕ
 span_of n out back = n - least n (requests out ++ answers back)
 

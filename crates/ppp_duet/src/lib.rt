@@ -2,9 +2,9 @@
 //! two ends are stated (RFC 1661 section 4). There is no code here but the functions of [`laws`], which do nothing and
 //! carry the laws as their contracts.
 //!
-//! An end is an automaton of `ppp_auto` with three counts and a list beside it that no end reads: how many requests it
-//! has sent, the ordinal of the peer's last request that it took in, and its own list when it judged the one that it
-//! acknowledged last. Each Configure-Request under way bears its ordinal as a mark, and each answer to it the same mark.
+//! An end is an automaton of `ppp_auto` with two ordinals and a list beside it that no end reads: the ordinal of its last
+//! request, that of the peer's last request that it took in, and its own list when it judged the one that it acknowledged
+//! last. A request that is sent again keeps its ordinal. Each Configure-Request under way bears its ordinal as a mark, and each answer to it the same mark.
 //! What happens is an event without a packet, the delivery or the loss of a packet, a Protocol-Reject, another cap, or
 //! that an end begins anew; `specs/Duet` has all of it as functions, over any tables of options.
 //!

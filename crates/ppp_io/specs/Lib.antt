@@ -1,6 +1,9 @@
-pub mod Causes
-pub mod Told
-pub mod Reads
-pub mod Writes
-pub mod InMemory
-pub mod Counted
+pub mod Fault
+pub mod Account
+pub mod ReadGot
+pub mod Wrote
+pub mod SureSource
+pub mod MemSource
+pub mod SureSink
+pub mod MemSink
+pub mod StdDevice

@@ -1,7 +1,7 @@
 use super::*;
 use std::alloc::AllocFailed;
 use std::io;
-use std::io::Read;
+use std::io::{ErrorKind, Read, Write};
 use std::process::Abort;
 use std::test::Fail;
 
@@ -12,6 +12,42 @@ struct Broken;
 impl Read for Broken {
     fn read(&mut self, _buf: &mut [u8]) -> io::Result<usize> {
         Err(io::Error::other("broken"))
+    }
+}
+
+// A reader or a writer that is interrupted so many times at first.
+#[derive(Drop)]
+struct Interrupted<T: Drop> {
+    times: u32,
+    inner: T,
+}
+
+impl<T: Drop> Interrupted<T> {
+    // Counts a call, and fails as long as it is interrupted.
+    fn call(&mut self) -> io::Result<()> {
+        if self.times == 0 {
+            return Ok(());
+        }
+        self.times -= 1;
+        Err(io::Error::from(ErrorKind::Interrupted))
+    }
+}
+
+impl<R: Read + Drop> Read for Interrupted<R> {
+    fn read(&mut self, buf: &mut [u8]) -> io::Result<usize> {
+        self.call()?;
+        self.inner.read(buf)
+    }
+}
+
+impl<W: Write + Drop> Write for Interrupted<W> {
+    fn write(&mut self, buf: &[u8]) -> io::Result<usize> {
+        self.call()?;
+        self.inner.write(buf)
+    }
+
+    fn flush(&mut self) -> io::Result<()> {
+        self.inner.flush()
     }
 }
 
@@ -120,6 +156,25 @@ fn adapters_count_the_faults_of_std(rt: HostRuntime) {
     assert_eq!(rt; sink.faults(), 1);
     drop(sink);
     assert!(rt; room == *b"abc");
+}
+
+#[test]
+fn adapters_try_an_interrupted_call_again(rt: HostRuntime) {
+    // how many calls are interrupted, and the answers of a read and of a write
+    let rows: [(u32, ReadGot, Wrote); 3] = [
+        (1, ReadGot::Got(2), Wrote::Took(2)),
+        (99, ReadGot::Got(2), Wrote::Took(2)),
+        (100, ReadGot::Failed, Wrote::Failed),
+    ];
+    for (times, got, wrote) in rows {
+        let inner = b"ab".as_slice();
+        let mut source = StdSource::new(Interrupted { times, inner });
+        check_reads(&rt, &mut source, &[(got, b"ab")]);
+        let mut room = [0u8; 2];
+        let inner = room.as_mut_slice();
+        let mut sink = StdSink::new(Interrupted { times, inner });
+        check_writes(&rt, &mut sink, &[(b"ab", wrote)]);
+    }
 }
 
 #[test]

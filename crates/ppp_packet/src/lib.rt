@@ -19,7 +19,7 @@ pub use opt_list::{MOST_LIST, NoRoom, OptList, write_options};
 pub use opt_ref::OptRef;
 pub use options::{MOST_BODY, OPTION_HEADER, Options, read_options};
 pub use packet_ref::{MOST_DATA, PACKET_HEADER, PacketRef, read_packet, write_packet};
-pub use proto::Proto;
+pub use proto::{Proto, UnknownProto};
 
 #[cfg(test)]
 mod tests;

@@ -13,7 +13,7 @@ use std::marker::Model;
 pub const MOST_KEPT_BODY: usize = 32;
 
 /// A Configuration Option with a body of at most 32 octets, kept by value and seen as its Type and its body.
-#[derive(Debug, Drop)]
+#[derive(Clone, Debug, Drop)]
 pub struct Opt {
     kind: u8,
     body: ArrayVec<u8, MOST_KEPT_BODY>,

@@ -20,7 +20,7 @@ pub const MOST_LIST: usize = 128;
 pub struct NoRoom;
 
 /// A list of options that has at most 128 octets when written, kept by value and seen as that list.
-#[derive(Drop)]
+#[derive(Clone, Debug, Drop)]
 pub struct OptList {
     octets: ArrayVec<u8, MOST_LIST>,
 }

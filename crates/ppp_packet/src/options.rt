@@ -16,7 +16,7 @@ pub const OPTION_HEADER: usize = 2;
 pub const MOST_BODY: usize = 253;
 
 /// Octets that are a list of options, seen as that list.
-#[derive(Debug, Drop)]
+#[derive(Clone, Debug, Drop)]
 pub struct Options<'a> {
     octets: &'a [u8],
 }

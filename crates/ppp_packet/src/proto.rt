@@ -1,9 +1,10 @@
 //! The control protocols.
 
 ghost use Rattle.std.specs.Prelude.{◌≡◌, Some};
-ghost use Rattle.ppp_packet.specs.Proto.{proto_number, proto_name};
+ghost use Rattle.ppp_packet.specs.Proto.{proto_number, proto_name, read_proto};
 
 use std::fmt;
+use thiserror::Error;
 
 /// A control protocol whose packets have the form of RFC 1661 section 5. It prints as scripts and reports name it.
 #[derive(Clone, Copy, Debug, PartialEq, Eq)]
@@ -34,6 +35,29 @@ impl Proto {
             Proto::Osi => 0x8023,
             Proto::Mpls => 0x8281,
             Proto::Bacp => 0xc02b,
+        }
+    }
+}
+
+/// A number that is no control protocol's.
+#[derive(Clone, Copy, Debug, PartialEq, Eq, Error)]
+#[error("no control protocol has the number {0}")]
+pub struct UnknownProto(pub u16);
+
+impl TryFrom<u16> for Proto {
+    type Error = UnknownProto;
+
+    ghost try_from_gives = { λ number answer. answer ≡ read_proto number };
+
+    fn try_from(number: u16) -> Result<Proto, UnknownProto> {
+        match number {
+            0xc021 => Ok(Proto::Lcp),
+            0x8021 => Ok(Proto::Ip),
+            0x8057 => Ok(Proto::Ipv6),
+            0x8023 => Ok(Proto::Osi),
+            0x8281 => Ok(Proto::Mpls),
+            0xc02b => Ok(Proto::Bacp),
+            _ => Err(UnknownProto(number)),
         }
     }
 }

@@ -1,8 +1,8 @@
 //! Each public call once, over packets and options that RFC 1661 spells out.
 
 use crate::{
-    Code, Disc, Opt, OptList, Proto, UnknownCode, read_options, read_packet, write_options,
-    write_packet,
+    Code, Disc, Opt, OptList, Proto, UnknownCode, UnknownProto, read_options, read_packet,
+    write_options, write_packet,
 };
 
 /// Octets, and the packet in them: Code, Identifier, and the options as Type and Length of the body, if they read.
@@ -154,5 +154,7 @@ fn reads_codes_and_numbers_protocols(rt: HostRuntime) {
     ];
     for (protocol, number) in rows {
         assert_eq!(rt; protocol.number(), number);
+        assert_eq!(rt; Proto::try_from(number), Ok(protocol));
     }
+    assert_eq!(rt; Proto::try_from(0x0021), Err(UnknownProto(0x0021)));
 }

@@ -1,4 +1,4 @@
-use Rattle.ppp_cli.proofs.Agreed.{agrees_if_replayed}
+use Rattle.ppp_cli.proofs.AgreementLemmas.{agrees_if_replayed}
 use Rattle.ppp_cli.proofs.run.ppp_run.Goals as goal
 
 pub returns-in-Some-Replay-clause-agreed : goal.returns-in-Some-Replay-clause-agreed

@@ -1,0 +1,28 @@
+-- How a run of the program ended.
+use Rattle.std.specs.Prelude.{ℕ, ⊤}
+use Rattle.ppp_cli.specs.declared.status.Status.{Status}
+use Rattle.ppp_cli.specs.declared.status.Status.TheVariants.{Ok as Fine, BadWords, ReadFault, TooLong, BadLine, Outstanding, WriteFault, Memory, NotBuilt}
+
+-- the number that the process exits with
+abbrev pub code_of : Status → ℕ
+code_of Fine = 0
+code_of BadWords = 2
+code_of ReadFault = 3
+code_of TooLong = 4
+code_of (BadLine line) = 6
+code_of (Outstanding step) = 7
+code_of WriteFault = 9
+code_of Memory = 10
+code_of NotBuilt = 11
+
+-- a status that the text of an input decides, once it was read to its end
+abbrev pub IsOfText : Status → Type 0
+IsOfText Fine = ⊤
+IsOfText BadWords = ⊥
+IsOfText ReadFault = ⊥
+IsOfText TooLong = ⊥
+IsOfText (BadLine line) = ⊤
+IsOfText (Outstanding step) = ⊤
+IsOfText WriteFault = ⊥
+IsOfText Memory = ⊥
+IsOfText NotBuilt = ⊤

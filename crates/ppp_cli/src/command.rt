@@ -1,0 +1,23 @@
+//! The program's words.
+
+ghost use Rattle.std.specs.Prelude.{◌≡◌};
+ghost use Rattle.ppp_cli.specs.Command.{command_in};
+
+/// What the program is to do.
+#[derive(Clone, Copy, Debug, PartialEq, Eq)]
+pub(crate) enum Command {
+    /// `replay`: replays a script.
+    Replay,
+}
+
+impl Command {
+    /// The command of the words behind the program's name. None exactly where they are those of no command.
+    pub(crate) fn of(words: &[String]) -> Option<Command>
+        ensures { result ≡ command_in words.now }
+    {
+        match words {
+            [word] if word.as_str() == "replay" => Some(Command::Replay),
+            _ => None,
+        }
+    }
+}

@@ -1,0 +1,243 @@
+//! Runs of the whole program that were worked out by hand.
+
+use ppp_cli::{Status, ppp_run, run_surely};
+use ppp_io::{MemSink, MemSource, SureSink, SureSource};
+use std::alloc::Global;
+use std::process::Abort;
+
+const REPLAY: &[&str] = &["replay"];
+
+const USAGE: &str =
+    "usage: pppd replay, feed, show, vectors, soak SEED COUNT, serve TURNS, pair TURNS\n";
+
+/// Both ends open the link, and show it.
+const FIRST_RUN: &str = "version = 1\n---\nup a 1\nopen a 1 lcp\nup b 1\nopen b 1 lcp\n\
+    deliver b 1\ndeliver a 1\ndeliver a 1\ndeliver b 1\nshow\n";
+
+/// Words as a process has them.
+fn words_of(alloc: Global, rt: &impl Abort, words: &[&str]) -> Vec<String> {
+    let mut args = Vec::new(alloc);
+    for word in words {
+        let word = String::from_str(alloc, word).expect(rt, "memory");
+        args.push(word).expect(rt, "memory");
+    }
+    args
+}
+
+/// Octets with memory of their own.
+fn octets_of(alloc: Global, rt: &impl Abort, octets: &[u8]) -> Vec<u8> {
+    Vec::from_slice(alloc, octets).expect(rt, "memory")
+}
+
+/// What the program answers to these words and this input over devices that never fail, and what it writes.
+fn run_over(alloc: Global, rt: &impl Abort, words: &[&str], input: &[u8]) -> (Status, Vec<u8>) {
+    let args = words_of(alloc, rt, words);
+    let mut source = SureSource::new(octets_of(alloc, rt, input), 1_000);
+    let mut sink = SureSink::new(alloc, 1_000).expect(rt, "memory");
+    let status = run_surely(alloc, &args, &mut source, &mut sink);
+    assert!(rt; !sink.is_past_room());
+    (status, octets_of(alloc, rt, sink.octets()))
+}
+
+/// A script's first lines, the same lines so many times, and its last lines.
+fn repeating(
+    alloc: Global,
+    rt: &impl Abort,
+    first: &str,
+    lines: &str,
+    times: u32,
+    last: &str,
+) -> String {
+    let mut text = String::from_str(alloc, first).expect(rt, "memory");
+    for _ in 0..times {
+        text.push_str(lines).expect(rt, "memory");
+    }
+    text.push_str(last).expect(rt, "memory");
+    text
+}
+
+#[test]
+fn replays_what_was_worked_out(rt: HostRuntime) {
+    let open = "up a 1\nopen a 1 lcp\n";
+    let again = "down a 1\nup a 1\n";
+    let widest = repeating(rt.alloc(), &rt, open, again, 255, "");
+    let too_wide = repeating(rt.alloc(), &rt, open, again, 256, "");
+    let shown_first = repeating(
+        rt.alloc(),
+        &rt,
+        "show\nup a 1\nopen a 1 lcp\n",
+        again,
+        256,
+        "show\n",
+    );
+    let too_many_steps = repeating(rt.alloc(), &rt, "", "settle 1000\n", 100, "show\n");
+    // a script, the status, and the output
+    let rows: [(&str, Status, &str); 14] = [
+        // no lines
+        ("", Status::Ok, ""),
+        // both ends open by deliveries of what comes first, and more deliveries than there are frames
+        (
+            "up a 1\nopen a 1 lcp\nup b 1\nopen b 1 lcp\nsettle 6\nshow\n",
+            Status::Ok,
+            "show 11\n1 lcp Opened Opened 050600000004 050600000009 050600000009 050600000004 agree yes\n",
+        ),
+        (
+            "settle 1000\nshow\n",
+            Status::Ok,
+            "show 1001\n1 lcp Initial Initial - - - - agree -\n",
+        ),
+        // a request that is sent again has its Ack already under way
+        (
+            "up a 1\nopen a 1 lcp\nup b 1\nopen b 1 lcp\ndeliver b 1\ntimeout a 1 lcp\ndeliver a 1\ndeliver a 1\n\
+             show\ndeliver b 1\ndeliver b 1\ndeliver a 1\nshow\nsettle 10\nshow\n",
+            Status::Ok,
+            "show 9\n1 lcp Opened Ack-Sent 050600000004 050600000009 - 050600000004 agree -\n\
+             show 13\n1 lcp Req-Sent Opened - - 050600000009 050600000004 agree -\n\
+             show 24\n1 lcp Opened Opened 050600000004 050600000009 050600000009 050600000004 agree yes\n",
+        ),
+        // the line goes down at an end and comes up again
+        (
+            "up a 1\nopen a 1 lcp\nup b 1\nopen b 1 lcp\ndeliver b 1\ndeliver a 1\ndeliver a 1\ndeliver b 1\n\
+             down a 1\nup a 1\ndeliver b 1\nshow\ndeliver a 1\ndeliver a 1\ndeliver b 1\nshow\n",
+            Status::Ok,
+            "show 12\n1 lcp Req-Sent Ack-Sent - - - 050600000014 agree -\n\
+             show 16\n1 lcp Opened Opened 050600000014 050600000009 050600000009 050600000014 agree yes\n",
+        ),
+        // the restart counter is used up
+        (
+            "up a 1\nopen a 1 lcp\ntimeout a 1 lcp\ntimeout a 1 lcp\ntimeout a 1 lcp\ntimeout a 1 lcp\n\
+             timeout a 1 lcp\ntimeout a 1 lcp\ntimeout a 1 lcp\ntimeout a 1 lcp\ntimeout a 1 lcp\n\
+             timeout a 1 lcp\nshow\nup b 1\nopen b 1 lcp\ndeliver a 1\nshow\n",
+            Status::Ok,
+            "show 13\n1 lcp Stopped Initial - - - - agree -\n\
+             show 17\n1 lcp Ack-Sent Req-Sent - 05060000001f - - agree -\n",
+        ),
+        // the first of two frames is lost
+        (
+            "up a 1\nopen a 1 lcp\ntimeout a 1 lcp\nlose b 1 1\nup b 1\nopen b 1 lcp\ndeliver b 1\ndeliver a 1\nshow\n",
+            Status::Ok,
+            "show 9\n1 lcp Ack-Sent Ack-Sent - 05060000000d - 050600000004 agree -\n",
+        ),
+        // the widest span of requests, one that is wider, and one behind a report
+        (widest.as_str(), Status::Ok, ""),
+        (
+            too_wide.as_str(),
+            Status::Outstanding(514),
+            "outstanding step 514 end a link 1 lcp sent 257 oldest 1\n",
+        ),
+        (
+            shown_first.as_str(),
+            Status::Outstanding(515),
+            "show 1\n1 lcp Initial Initial - - - - agree -\n\
+             outstanding step 515 end a link 1 lcp sent 257 oldest 1\n",
+        ),
+        // lines that are no event's, of a link that isn't configured, and past the most steps
+        ("fly a 1\n", Status::BadLine(1), "line 1 Event\n"),
+        ("up a 1\nfly a 1", Status::BadLine(2), "line 2 Event\n"),
+        ("up a 2\n", Status::BadLine(1), "line 1 Link\n"),
+        (
+            too_many_steps.as_str(),
+            Status::BadLine(101),
+            "line 101 Steps\n",
+        ),
+    ];
+    for (script, status, output) in rows {
+        let input = repeating(rt.alloc(), &rt, "version = 1\n---\n", "", 0, script);
+        let (answered, written) = run_over(rt.alloc(), &rt, REPLAY, input.as_bytes());
+        assert_eq!(rt; answered, status, "at {script:?}");
+        assert_eq!(rt; written.as_slice(), output.as_bytes(), "at {script:?}");
+    }
+}
+
+#[test]
+fn replies_to_words_and_settings(rt: HostRuntime) {
+    // words, an input, the status, and the output
+    let rows: [(&[&str], &str, Status, &str); 10] = [
+        // both ends open
+        (
+            REPLAY,
+            FIRST_RUN,
+            Status::Ok,
+            "show 9\n1 lcp Opened Opened 050600000004 050600000009 050600000009 050600000004 agree yes\n",
+        ),
+        // settings that end with LF or with the input
+        (REPLAY, "version = 1\n", Status::Ok, ""),
+        (REPLAY, "version = 1", Status::Ok, ""),
+        // settings that aren't built
+        (REPLAY, "", Status::NotBuilt, "not built\n"),
+        (REPLAY, "version = 3", Status::NotBuilt, "not built\n"),
+        (
+            REPLAY,
+            "version = 1\nlinks = 2\n---\nshow\n",
+            Status::NotBuilt,
+            "not built\n",
+        ),
+        // words that are no command's
+        (&[], FIRST_RUN, Status::BadWords, USAGE),
+        (&["soak", "01", "5"], FIRST_RUN, Status::BadWords, USAGE),
+        (&["replay", "replay"], FIRST_RUN, Status::BadWords, USAGE),
+        (&["replay", "x"], FIRST_RUN, Status::BadWords, USAGE),
+    ];
+    for (words, input, status, output) in rows {
+        let (answered, written) = run_over(rt.alloc(), &rt, words, input.as_bytes());
+        assert_eq!(rt; answered, status, "at {input:?}");
+        assert_eq!(rt; written.as_slice(), output.as_bytes(), "at {input:?}");
+    }
+}
+
+#[test]
+fn an_octet_above_1048576_is_too_long(rt: HostRuntime) {
+    // the settings of so many octets aren't built
+    let rows: [(usize, Status, &str); 2] = [
+        (1_048_576, Status::NotBuilt, "not built\n"),
+        (1_048_577, Status::TooLong, "too long\n"),
+    ];
+    for (length, status, output) in rows {
+        let input = vec![in rt.alloc(); b'#'; length].expect(&rt, "memory");
+        let (answered, written) = run_over(rt.alloc(), &rt, REPLAY, &input);
+        assert_eq!(rt; answered, status, "at {length}");
+        assert_eq!(rt; written.as_slice(), output.as_bytes(), "at {length}");
+    }
+}
+
+#[test]
+fn a_failed_read_gives_its_line(rt: HostRuntime) {
+    let args = words_of(rt.alloc(), &rt, REPLAY);
+    let input = octets_of(rt.alloc(), &rt, FIRST_RUN.as_bytes());
+    let failing = vec![in rt.alloc(); 2].expect(&rt, "memory");
+    let mut source = MemSource::new(input, 40, failing);
+    let mut sink = SureSink::new(rt.alloc(), 100).expect(&rt, "memory");
+    let status = ppp_run(rt.alloc(), &args, &mut source, &mut sink);
+    assert_eq!(rt; status, Status::ReadFault);
+    assert!(rt; sink.octets() == b"read fault\n".as_slice());
+    assert_eq!(rt; source.faults(), 1);
+}
+
+#[test]
+fn a_full_sink_holds_the_front_of_the_output(rt: HostRuntime) {
+    let args = words_of(rt.alloc(), &rt, REPLAY);
+    let input = octets_of(rt.alloc(), &rt, FIRST_RUN.as_bytes());
+    let mut source = SureSource::new(input, 1_000);
+    let mut sink = MemSink::new(rt.alloc(), 20, Vec::new(rt.alloc())).expect(&rt, "memory");
+    let status = ppp_run(rt.alloc(), &args, &mut source, &mut sink);
+    assert_eq!(rt; status, Status::WriteFault);
+    assert!(rt; sink.octets() == b"show 9\n1 lcp Opened ".as_slice());
+}
+
+#[test]
+fn each_status_has_its_number(rt: HostRuntime) {
+    let rows = [
+        (Status::Ok, 0),
+        (Status::BadWords, 2),
+        (Status::ReadFault, 3),
+        (Status::TooLong, 4),
+        (Status::BadLine(1), 6),
+        (Status::Outstanding(1), 7),
+        (Status::WriteFault, 9),
+        (Status::Memory, 10),
+        (Status::NotBuilt, 11),
+    ];
+    for (status, code) in rows {
+        assert_eq!(rt; status.code(), code);
+    }
+}
