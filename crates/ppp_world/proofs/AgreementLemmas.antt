@@ -1,6 +1,6 @@
 -- Two ends with LCP's table agree exactly where the tests of the report say so.
 use Rattle.std.proofs.Common.{inl, inr, ◌≡◌, ◌↔◌, ◌⊎◌, ℕ, Bool, true, false, ◌&&◌, List, [], ◌∷◌, refl, sym, ◌∙◌, ap, arith}
-use Rattle.std.specs.Prelude.{◌≢◌, Option, Some, None, IsTrue, IsNone, if◌then◌else◌}
+use Rattle.std.specs.Prelude.{◌≢◌, Some, None, IsTrue, IsNone, if◌then◌else◌}
 use Rattle.std.proofs.lemmas.Bool.Decides.{nat_tests}
 use Rattle.std.proofs.lemmas.Slice.Eq.{bytes_eq-Decides}
 use Rattle.ppp_packet.specs.ConfigOption.{ConfigOption}

@@ -1,7 +1,6 @@
 -- Packets in octets, as a reader finds them.
-use Rattle.std.proofs.Common.{◌≡◌, ℕ, List, refl, sym, ◌∙◌, ap, arith}
+use Rattle.std.proofs.Common.{◌≡◌, ℕ, List, refl, arith}
 use Rattle.std.specs.Prelude.{Option, Some, None}
-use Rattle.std.specs.Option.{option_map, option_and_then}
 use Rattle.std.proofs.lemmas.Bool.Decides.{nat_tests}
 use Rattle.ppp_packet.specs.ConfigOption.{ConfigOption}
 use Rattle.ppp_packet.specs.Options.{options_of, list_of, HoldsOptions}

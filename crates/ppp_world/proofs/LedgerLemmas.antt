@@ -16,17 +16,17 @@ use Rattle.ppp_auto.specs.declared.input.Input.TheVariants as on
 use Rattle.ppp_auto.specs.declared.action.Action.{Action}
 use Rattle.ppp_auto.specs.declared.action.Action.TheVariants.{ThisLayerUp, ThisLayerDown, ThisLayerStarted, ThisLayerFinished, InitializeRestartCount, ZeroRestartCount, SendConfigureRequest, RepeatConfigureRequest, SendConfigureAck, SendConfigureNak, SendTerminateRequest, SendTerminateAck, SendCodeReject, SendEchoReply}
 use Rattle.ppp_auto.specs.Auto.{Auto, last_id}
-use Rattle.ppp_auto.specs.Automaton.{Acted, acts_on, take_in, command, entries_of, does_row, effects, answering, after, tells_rejected}
+use Rattle.ppp_auto.specs.Automaton.{Acted, acts_on, entries_of, does_row, effects, answering, after, tells_rejected}
 use Rattle.ppp_auto.specs.Taken.{Taken, taken_as, request_taken, nak_taken, input_of, kind, judging}
 use Rattle.ppp_auto.specs.Outbox.{Effect, Sends, Tells, entry_of}
 use Rattle.ppp_auto.specs.EventTable.{cell_of, asks, acks}
 use Rattle.ppp_auto.specs.OptionTable.{Table}
 use Rattle.ppp_auto.specs.Packet.{Packet, Request, Ack, Nak, Reject, Other, packet_of, packet_with, octets_of}
 use Rattle.ppp_auto.specs.Reply.{reply_with}
-use Rattle.ppp_duet.specs.Duet.{End, Did, Marked, Setup, marked, does, does_if, takes, got_after}
+use Rattle.ppp_duet.specs.Duet.{Did, Marked, Setup, marked, does, does_if, takes, got_after}
 use Rattle.ppp_auto.specs.Auto.{is_off}
 use Rattle.ppp_world.specs.Frame.{packet_held}
-use Rattle.ppp_world.specs.Ledger.{Ledger, last_of, noted, noted_all, stamped, heard, packets_in, AllHold, is_asking, IsLedgerOf, end_of}
+use Rattle.ppp_world.specs.Ledger.{Ledger, last_of, noted_all, stamped, heard, packets_in, AllHold, is_asking, IsLedgerOf, end_of}
 use Rattle.ppp_world.specs.Party.{Party, IsKept, end_seen, commanded, taken, party_after, party_hearing, sent_by}
 use Rattle.ppp_world.specs.Settings.{setup_of}
 use Rattle.ppp_world.specs.declared.ledger.TheConstants.{FIRST_ID}

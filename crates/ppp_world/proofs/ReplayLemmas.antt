@@ -3,12 +3,12 @@ use Rattle.std.proofs.Common.{◌≡◌, ℕ, ◌+◌, ◌≤◌, List, [], ◌�
 use Rattle.std.specs.Prelude.{Option, Some, None, Result, Ok, Err, IfOk, IsSome}
 use Rattle.std.proofs.lemmas.List.Sums.{sum_by-cons}
 use Rattle.ppp_script.specs.Event.{steps_in, steps_in_all}
-use Rattle.ppp_script.specs.declared.end.End.{End}
+use Rattle.ppp_script.specs.declared.script.TheConstants.{MOST_STEPS}
 use Rattle.ppp_script.specs.declared.event.Event.{Event}
 use Rattle.ppp_world.specs.Refusal.{refusal_in}
 use Rattle.ppp_world.specs.Run.{run_from, run_of, place_begun, report, refusal, before_refusal}
 use Rattle.ppp_world.specs.Settings.{Settings}
-use Rattle.ppp_world.specs.World.{World, world_begun, world_after, answer_of, fault_of, place_of, UnlessMemory}
+use Rattle.ppp_world.specs.World.{World, world_begun, world_after, answer_of, place_of, UnlessMemory}
 use Rattle.ppp_world.specs.declared.outstanding.Outstanding.{Outstanding as Outstanding'}
 use Rattle.ppp_world.specs.declared.refusal.Refusal.{Refusal}
 use Rattle.ppp_world.specs.declared.world_fault.WorldFault.{WorldFault}
@@ -26,9 +26,9 @@ halted_all w events fault is = run_is events w ∙ halted_moments w (run_from w.
 pub record ReplaysOn (s : Settings) (all : List Event) (now : World) (rest : List Event) : Type 0 where
   pub same : world_after_all (world_begun s) all ≡ world_after_all now rest
   pub going : now.halt ≡ None
-  pub room : now.steps + steps_in_all rest ≤ 100000
+  pub room : now.steps + steps_in_all rest ≤ MOST_STEPS
 
-pub replays_first : (s : Settings) (all : List Event) → steps_in_all all ≤ 100000 → ReplaysOn s all (world_begun s) all
+pub replays_first : (s : Settings) (all : List Event) → steps_in_all all ≤ MOST_STEPS → ReplaysOn s all (world_begun s) all
 replays_first s all few = record { same = refl; going = refl; room = omega arith }
 
 going_answer : (o : Option WorldFault) → Ok tt ≡ answer_of o → o ≡ None
@@ -39,12 +39,12 @@ done_if : (o : Option WorldFault) {P : Type 0} → o ≡ None → UnlessMemory o
 done_if None is p = p
 done_if (Some fault) is p = absurd (cc)
 
-refused_if : (o : Option WorldFault) {P : Type 0} (e : End) (link protocol sent oldest : ℕ) → o ≡ Some (Outstanding e link protocol sent oldest) → UnlessMemory o P → P
-refused_if None e link protocol sent oldest is p = absurd (cc)
-refused_if (Some Memory) e link protocol sent oldest is p = absurd (cc)
-refused_if (Some (Outstanding end l proto s o)) e link protocol sent oldest is p = p
+refused_if : (o : Option WorldFault) {P : Type 0} (fault : Outstanding') → o ≡ Some (Outstanding fault) → UnlessMemory o P → P
+refused_if None fault is p = absurd (cc)
+refused_if (Some Memory) fault is p = absurd (cc)
+refused_if (Some (Outstanding other)) fault is p = p
 
-pub replays_room : (s : Settings) (all : List Event) (now : World) (rest more : List Event) (event : Event) → rest ≡ event ∷ more → ReplaysOn s all now rest → now.steps + steps_in event ≤ 100000
+pub replays_room : (s : Settings) (all : List Event) (now : World) (rest more : List Event) (event : Event) → rest ≡ event ∷ more → ReplaysOn s all now rest → now.steps + steps_in event ≤ MOST_STEPS
 replays_room s all now rest more event is far = let room = rw is at far.room in omega (arith, room, sum_by-cons steps_in event more)
 
 pub replays_next : (s : Settings) (all : List Event) (now next : World) (rest more : List Event) (event : Event) (answer : Result (Unit {0}) WorldFault) → rest ≡ event ∷ more →
@@ -76,31 +76,29 @@ halt_answered : (o : Option WorldFault) (fault : WorldFault) → Err fault ≡ a
 halt_answered None fault is = absurd (cc)
 halt_answered (Some other) fault is = cc
 
-the_refusal : (o : Option Refusal) (steps : ℕ) (e : End) (link protocol sent oldest : ℕ) → Some (Outstanding e link protocol sent oldest) ≡ halt_of o → IsNextAfter steps o →
-    refusal_in (steps + 1) (Outstanding e link protocol sent oldest) ≡ o
-the_refusal None steps e link protocol sent oldest is next = absurd (cc)
-the_refusal (Some r) steps e link protocol sent oldest is next = same_refusal r.step r.fault.end r.fault.link r.fault.protocol r.fault.sent r.fault.oldest next (cc) (cc) (cc) (cc) (cc)
+the_refusal : (o : Option Refusal) (steps : ℕ) (fault : Outstanding') → Some (Outstanding fault) ≡ halt_of o → IsNextAfter steps o → refusal_in (steps + 1) (Outstanding fault) ≡ o
+the_refusal None steps fault is next = absurd (cc)
+the_refusal (Some r) steps fault is next = same_refusal r.step r.fault next (cc)
   where
-    same_refusal : (step : ℕ) (e' : End) (l p n m : ℕ) → step ≡ steps + 1 → e' ≡ e → l ≡ link → p ≡ protocol → n ≡ sent → m ≡ oldest →
-        refusal_in (steps + 1) (Outstanding e link protocol sent oldest) ≡ Some (record { step = step; fault = record { end = e'; link = l; protocol = p; sent = n; oldest = m } })
-    same_refusal step e' l p n m a b c d f g = rw (a, b, c, d, f, g) refl
+    same_refusal : (step : ℕ) (other : Outstanding') → step ≡ steps + 1 → other ≡ fault → refusal_in (steps + 1) (Outstanding fault) ≡ Some (record { step = step; fault = other })
+    same_refusal step other same_step same = rw (same_step, same) refl
 
-replays_refused : (s : Settings) (all : List Event) (now next : World) (rest more : List Event) (event : Event) (e : End) (link protocol sent oldest : ℕ) → rest ≡ event ∷ more →
-    next.halt ≡ Some (Outstanding e link protocol sent oldest) → UnlessMemory next.halt (next ≡ world_after now event) → ReplaysOn s all now rest →
-    (next.report ≡ report (before_refusal (run_of s all))) × (refusal_in (next.steps + 1) (Outstanding e link protocol sent oldest) ≡ refusal (run_of s all))
-replays_refused s all now next rest more event e link protocol sent oldest is why done far =
-    let did = refused_if next.halt e link protocol sent oldest why done in
-    let same = (rw is at far.same) ∙ ap (λ w. world_after_all w more) (sym did) ∙ halted_all next more (Outstanding e link protocol sent oldest) why in
+replays_refused : (s : Settings) (all : List Event) (now next : World) (rest more : List Event) (event : Event) (fault : Outstanding') → rest ≡ event ∷ more →
+    next.halt ≡ Some (Outstanding fault) → UnlessMemory next.halt (next ≡ world_after now event) → ReplaysOn s all now rest →
+    (next.report ≡ report (before_refusal (run_of s all))) × (refusal_in (next.steps + 1) (Outstanding fault) ≡ refusal (run_of s all))
+replays_refused s all now next rest more event fault is why done far =
+    let did = refused_if next.halt fault why done in
+    let same = (rw is at far.same) ∙ ap (λ w. world_after_all w more) (sym did) ∙ halted_all next more (Outstanding fault) why in
     let whole = rw same at (follows s all) in
-    (whole.report, the_refusal (refusal (run_of s all)) next.steps e link protocol sent oldest (sym why ∙ whole.halt) whole.next)
+    (whole.report, the_refusal (refusal (run_of s all)) next.steps fault (sym why ∙ whole.halt) whole.next)
 
 -- however the world refused, what the replay comes to is right, if it comes to something
 pub replays_stopped : (s : Settings) (all : List Event) (now next : World) (rest more : List Event) (event : Event) (answer : Result (Unit {0}) WorldFault) (why : WorldFault) (refused : Option Refusal) → rest ≡ event ∷ more →
     answer ≡ answer_of next.halt → answer ≡ Err why → UnlessMemory next.halt (next ≡ world_after now event) → ReplaysOn s all now rest → refused ≡ refusal_in (next.steps + 1) why → IsSome refused →
     (next.report ≡ report (before_refusal (run_of s all))) × (refused ≡ refusal (run_of s all))
 replays_stopped s all now next rest more event answer Memory refused is answers err done far refused_is some = absurd (cc)
-replays_stopped s all now next rest more event answer (Outstanding e link protocol sent oldest) refused is answers err done far refused_is some =
-    let both = replays_refused s all now next rest more event e link protocol sent oldest is (halt_answered next.halt _ (sym err ∙ answers)) done far in
+replays_stopped s all now next rest more event answer (Outstanding fault) refused is answers err done far refused_is some =
+    let both = replays_refused s all now next rest more event fault is (halt_answered next.halt _ (sym err ∙ answers)) done far in
     (both.0, refused_is ∙ both.1)
 
 pub none_is : {X : Type 0} (o : Option X) → IsSome o → o ≡ None → ⊥

@@ -1,11 +1,11 @@
 -- In every state of a run that isn't refused two Opened ends agree.
-use Rattle.std.proofs.Common.{◌≡◌, ℕ, zero, suc, ◌+◌, List, [], ◌∷◌, ◌++◌, length, refl, sym, ◌∙◌, ap, subst, arith, length-append}
-use Rattle.std.specs.Prelude.{Option, Some, None, All, ⊤}
+use Rattle.std.proofs.Common.{◌≡◌, ℕ, zero, suc, ◌+◌, List, [], ◌∷◌, ◌++◌, length, refl, sym, ap, subst, arith}
+use Rattle.std.specs.Prelude.{Option, Some, None, ⊤}
 use Rattle.std.proofs.lemmas.List.Elements.{All-nil, All-cons}
 use Rattle.ppp_duet.specs.Duet.{Duet}
 use Rattle.ppp_duet.specs.Reached.{Reached}
 use Rattle.ppp_duet.specs.Span.{Narrow}
-use Rattle.ppp_duet.specs.Terms.{Terms, AreLawful}
+use Rattle.ppp_duet.specs.Terms.{Terms}
 use Rattle.ppp_duet.proofs.ReachedLemmas.{reached_start, agreement_at}
 use Rattle.ppp_duet.proofs.SpanLemmas.{narrow_start}
 use Rattle.ppp_script.specs.Event.{steps_in}
@@ -14,9 +14,9 @@ use Rattle.ppp_script.specs.declared.event.Event.TheVariants.{Up, Down, AdminOpe
 use Rattle.ppp_world.specs.Agreement.{AgreesIfOpened, AgreesEverywhere}
 use Rattle.ppp_world.specs.Lcp.{Sendable, IsUnknown, Allows, Compatible}
 use Rattle.ppp_world.specs.LcpLawful.{lcp_lawful}
-use Rattle.ppp_world.specs.LcpSettings.{LcpSettings, IsRanged}
+use Rattle.ppp_world.specs.LcpSettings.{LcpSettings}
 use Rattle.ppp_world.specs.Outstanding.{outstanding_in}
-use Rattle.ppp_world.specs.Run.{Moment, Place, moment_at, after_moment, deliveries, moments_by, moments_of, place_after, run_from, place_begun, run_of, before_refusal, kept_with, AgreesThroughout}
+use Rattle.ppp_world.specs.Run.{Moment, Place, moment_at, after_moment, deliveries, moments_by, moments_of, place_after, run_from, place_begun, run_of, before_refusal, kept_with, AgreesThroughout, AgreesInRun}
 use Rattle.ppp_world.specs.Settings.{Settings, AreRanged, default_settings, setup_of}
 use Rattle.ppp_world.specs.Step.{settling, next_delivery}
 use Rattle.ppp_world.specs.declared.outstanding.Outstanding.{Outstanding}
@@ -91,10 +91,14 @@ each_linked s ranged p (m ∷ ms) links narrow r =
     kept_agree m (before_refusal ms) (outstanding_in m.after) (λ link proto. agrees_at link proto m.after (agreed s ranged m.after reached))
     (λ none. each_linked s ranged (after_moment m) ms links.1 (narrow_of m.after none) reached)
 
--- In every state of a run before the first step that is refused two Opened ends agree.
-pub each_agrees : (s : Settings) → AreRanged s → (events : List Event) → AgreesThroughout (before_refusal (run_of s events))
-each_agrees s ranged events =
-    each_linked s ranged (place_begun s) (run_of s events) (linked_run s (place_begun s) events) (narrow_start (setup_of s.a) (setup_of s.b)) (reached_start (setup_of s.a) (setup_of s.b))
+-- From the start to the first step that is refused two Opened ends agree.
+pub agrees_in_run : (s : Settings) → AreRanged s → (events : List Event) → AgreesInRun s events
+agrees_in_run s ranged events =
+    let sa = setup_of s.a in let sb = setup_of s.b in let d = (place_begun s).duet in
+    record {
+      first = λ link proto. agrees_at link proto d (agreed s ranged d (reached_start sa sb));
+      each = each_linked s ranged (place_begun s) (run_of s events) (linked_run s (place_begun s) events) (narrow_start sa sb) (reached_start sa sb);
+    }
 
 pub ranged_by_default : AreRanged default_settings
 ranged_by_default = record { of_a = record { least = omega arith; most = omega arith }; of_b = record { least = omega arith; most = omega arith } }

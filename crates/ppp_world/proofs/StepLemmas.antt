@@ -1,6 +1,6 @@
 -- A step is a list of the two ends' events: the frames that find a queue full are lost behind the first.
-use Rattle.std.proofs.Common.{inl, inr, ◌≡◌, ℕ, zero, suc, ◌+◌, ◌*◌, ◌≤◌, ◌<◌, Bool, true, false, List, [], ◌∷◌, ◌++◌, length, take, refl, sym, ap, ◌∙◌, subst, arith}
-use Rattle.std.specs.Prelude.{Option, Some, None, nat_lt, if◌then◌else◌, ⊤}
+use Rattle.std.proofs.Common.{inl, inr, ◌≡◌, ℕ, zero, suc, ◌+◌, ◌≤◌, ◌<◌, Bool, true, false, List, [], ◌∷◌, ◌++◌, length, take, refl, sym, ap, ◌∙◌, subst, arith}
+use Rattle.std.specs.Prelude.{Option, Some, None, nat_lt, if◌then◌else◌}
 use Rattle.std.specs.List.{AllByRecursion}
 use Rattle.std.proofs.lemmas.Bool.{cases_lt}
 use Rattle.std.proofs.lemmas.Bool.Decides.{nat_tests}
@@ -19,7 +19,7 @@ use Rattle.ppp_script.specs.declared.end.End.TheVariants as end
 use Rattle.ppp_world.specs.Outstanding.{outstanding_of, or_else, outstanding_in}
 use Rattle.ppp_world.specs.Settings.{Settings, setup_of}
 use Rattle.ppp_world.specs.Step.{event_of, happening_seen, moved, within_room, word_of}
-use Rattle.ppp_world.specs.World.{DeliversFirst, IsNoDelivery, IsCounted, most_a_step}
+use Rattle.ppp_world.specs.World.{DeliversFirst, IsNoDelivery, IsCounted}
 use Rattle.ppp_world.specs.declared.outstanding.Outstanding.{Outstanding}
 use Rattle.ppp_world.specs.declared.queue.TheConstants.{ROOM}
 use Rattle.ppp_world.specs.declared.step.Happening.{Happening}

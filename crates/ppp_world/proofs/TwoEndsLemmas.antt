@@ -8,7 +8,6 @@ use Rattle.ppp_world.specs.declared.queue.TheConstants.{ROOM}
 use Rattle.ppp_world.specs.declared.step.Happening.TheVariants as what
 use Rattle.ppp_world.specs.declared.step.Happening.{Happening}
 use Rattle.ppp_world.specs.Party.{Party, IsKept, end_seen, commanded, taken, party_after, party_hearing, sent_by}
-use Rattle.ppp_world.specs.Settings.{setup_of}
 use Rattle.ppp_world.specs.Step.{happening_seen, within_room}
 use Rattle.ppp_world.specs.TwoEnds.{acted}
 use Rattle.ppp_world.proofs.LedgerLemmas.{commanded_seen, taken_seen}

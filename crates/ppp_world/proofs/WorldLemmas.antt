@@ -1,6 +1,6 @@
 -- A world that takes a script's events one by one does the moments of its run, up to the first that is refused.
-use Rattle.std.proofs.Common.{◌≡◌, ℕ, zero, suc, ◌+◌, ◌-◌, ◌≤◌, ◌<◌, List, [], ◌∷◌, ◌++◌, length, refl, sym, ◌∙◌, ap, subst, arith, append_assoc}
-use Rattle.std.specs.Prelude.{Option, Some, None, IsSome, is_some, ⊤, true, false}
+use Rattle.std.proofs.Common.{◌≡◌, ℕ, suc, ◌+◌, ◌-◌, ◌≤◌, ◌<◌, List, [], ◌∷◌, ◌++◌, length, refl, sym, ◌∙◌, ap, subst, arith, append_assoc}
+use Rattle.std.specs.Prelude.{Option, Some, None, IsSome, is_some, ⊤, true}
 use Rattle.std.specs.Option.{option_map}
 use Rattle.std.proofs.lemmas.List.{append-nil}
 use Rattle.ppp_duet.specs.Duet.{Duet}
@@ -11,15 +11,15 @@ use Rattle.ppp_script.specs.declared.event.Event.{Event}
 use Rattle.ppp_world.specs.Outstanding.{outstanding_in}
 use Rattle.ppp_world.specs.Run.{Moment, Place, moment_at, after_moment, deliveries, moments_of, place_after, run_from, shown, shown_at, report, refusal, refusal_with, before_refusal, kept_with}
 use Rattle.ppp_world.specs.Settings.{Settings, AreRanged, setup_of}
-use Rattle.ppp_world.specs.Step.{moved, next_delivery, settling}
+use Rattle.ppp_world.specs.Step.{moved, next_delivery}
 use Rattle.ppp_world.specs.TwoEnds.{TwoEnds, settings_of, duet_seen, AreKept}
-use Rattle.ppp_world.specs.World.{World, world_of, place_of, fault_of, written_by, unless_halted, does_moment, does_moments, does_step, world_after, settled, UnlessMemory, Makes, AreLed, IsLedUnless, IsCounted}
+use Rattle.ppp_world.specs.World.{World, world_of, place_of, written_by, unless_halted, does_moment, does_moments, does_step, world_after, settled, UnlessMemory, Makes, AreLed, IsLedUnless, IsCounted}
 use Rattle.ppp_world.specs.declared.outstanding.Outstanding.{Outstanding as Outstanding'}
 use Rattle.ppp_world.specs.declared.refusal.Refusal.{Refusal}
 use Rattle.ppp_world.specs.declared.step.Step.{Step}
 use Rattle.ppp_world.specs.declared.world_fault.WorldFault.{WorldFault}
 use Rattle.ppp_world.specs.declared.world_fault.WorldFault.TheVariants.{Memory, Outstanding}
-use Rattle.ppp_world.proofs.RunLemmas.{Linked, linked_event, linked_run, length-moments}
+use Rattle.ppp_world.proofs.RunLemmas.{Linked, linked_event, length-moments}
 use Rattle.ppp_world.proofs.StepLemmas.{narrow_of, reached_step, still_none, counted_step, IsStep, step_is}
 
 -- after a halt nothing changes
@@ -110,7 +110,7 @@ IsNextAfter steps None = ⊤
 IsNextAfter steps (Some r) = r.step ≡ steps + 1
 
 abbrev pub halt_of : Option Refusal → Option WorldFault
-halt_of o = option_map (λ r. fault_of r.fault) o
+halt_of o = option_map (λ r. Outstanding r.fault) o
 
 -- What a world that hasn't halted makes of moments: it does and reports those before the first that is refused.
 pub record Becomes (w : World) (ms : List Moment) (end : World) : Type 0 where
@@ -129,7 +129,7 @@ becomes_one None w m ms is number rest =
       next = rw is below.next;
     }
 becomes_one (Some fault) w m ms is number rest =
-    let stays = halted_moments (written_by w m (Some fault)) ms (fault_of fault) refl in
+    let stays = halted_moments (written_by w m (Some fault)) ms (Outstanding fault) refl in
     record {
       report = rw (is, stays) (sym (append-nil w.report));
       halt = rw (is, stays) refl;
@@ -201,7 +201,7 @@ done_as old new steps text longer step same is none shows =
 
 pub refused_as : (old new : TwoEnds) (steps : ℕ) (text : List ℕ) (step : Step) (fault : Outstanding') → settings_of new ≡ settings_of old →
     duet_seen new ≡ moved (settings_of old) (steps + 1) (duet_seen old) step → outstanding_in (duet_seen new) ≡ Some fault →
-    world_of new steps text (Some (fault_of fault)) ≡ does_step (world_of old steps text None) step
+    world_of new steps text (Some (Outstanding fault)) ≡ does_step (world_of old steps text None) step
 refused_as old new steps text step fault same is some =
     rw (open_step old steps text step, ← is, some) (rw same refl)
 
@@ -243,12 +243,12 @@ halted_done w step some = by_halt w.halt refl some
     by_halt : (o : Option WorldFault) → w.halt ≡ o → IsSome o → UnlessMemory o (w ≡ does_step w step)
     by_halt None is some = absurd (cc)
     by_halt (Some Memory) is some = tt
-    by_halt (Some (Outstanding end link protocol sent oldest)) is some = sym (halted_moment w _ (Outstanding end link protocol sent oldest) is)
+    by_halt (Some (Outstanding fault)) is some = sym (halted_moment w _ (Outstanding fault) is)
 
 unless_map : (o : Option WorldFault) {P Q : Type 0} → UnlessMemory o P → (P → Q) → UnlessMemory o Q
 unless_map None p map = map p
 unless_map (Some Memory) p map = tt
-unless_map (Some (Outstanding end link protocol sent oldest)) p map = map p
+unless_map (Some (Outstanding fault)) p map = map p
 
 pub makes_after : (w new : World) (event : Event) → UnlessMemory new.halt (new ≡ world_after w event) → UnlessMemory new.halt (Makes w.settings (steps_in event) w.duet new.duet)
 makes_after w new event done = unless_map new.halt done (λ same. subst (λ (x : World). Makes w.settings (steps_in event) w.duet x.duet) (sym same) (makes_event w event))
@@ -256,17 +256,17 @@ makes_after w new event done = unless_map new.halt done (λ same. subst (λ (x :
 unless_always : (o : Option WorldFault) {P : Type 0} → P → UnlessMemory o P
 unless_always None p = p
 unless_always (Some Memory) p = tt
-unless_always (Some (Outstanding end link protocol sent oldest)) p = p
+unless_always (Some (Outstanding fault)) p = p
 
 unless_both : (o : Option WorldFault) {P Q R : Type 0} → UnlessMemory o P → UnlessMemory o Q → (P → Q → R) → UnlessMemory o R
 unless_both None p q both = both p q
 unless_both (Some Memory) p q both = tt
-unless_both (Some (Outstanding end link protocol sent oldest)) p q both = both p q
+unless_both (Some (Outstanding fault)) p q both = both p q
 
 unless_later : (o : Option WorldFault) (now next : World) (P : Type 0) → now.halt ≡ o → (IsSome now.halt → next ≡ now) → UnlessMemory o P → UnlessMemory next.halt P
 unless_later None now next P is stays p = unless_always next.halt p
 unless_later (Some Memory) now next P is stays p = let same : next ≡ now = stays (rw is refl) in rw (same, is) tt
-unless_later (Some (Outstanding end link protocol sent oldest)) now next P is stays p = unless_always next.halt p
+unless_later (Some (Outstanding fault)) now next P is stays p = unless_always next.halt p
 
 settled_next : (count : ℕ) (w : World) → settled (suc count) w ≡ settled count (does_step w (next_delivery w.duet))
 settled_next count w =

@@ -1,5 +1,5 @@
 -- Whether two ends agree, in a state and in each state of a run.
-use Rattle.std.specs.Prelude.{◌≡◌, ◌≢◌, ◌==◌, ◌&&◌, ℕ, Bool, false, if◌then◌else◌, None, List, Option, Some, All}
+use Rattle.std.specs.Prelude.{◌≡◌, ◌≢◌, ◌==◌, ◌&&◌, ℕ, Bool, false, if◌then◌else◌, None, List, Option, Some}
 use Rattle.std.specs.Option.{IfSome, option_and_then}
 use Rattle.ppp_packet.specs.ConfigOption.{ConfigOption}
 use Rattle.ppp_packet.specs.declared.proto.Proto.{Proto}

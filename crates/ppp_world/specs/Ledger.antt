@@ -14,9 +14,9 @@ use Rattle.ppp_world.specs.declared.ledger.TheConstants.{FIRST_ID}
 use Rattle.ppp_world.specs.declared.queue.TheConstants.{ROOM}
 
 pub record Ledger : Type 0 where
-  -- how many Configure-Requests were sent, but for those that repeat another
+  -- the ordinal of the last Configure-Request that was sent
   pub n : ℕ
-  -- the list of the last one
+  -- its list
   pub last : List ConfigOption
   -- the ordinal of the peer's last request that was taken in outside Initial and Starting
   pub got : ℕ
@@ -30,7 +30,7 @@ ledger_with n last got against = record { n = n; last = list_of last; got = got;
 abbrev pub ledger_begun : Ledger
 ledger_begun = record { n = 0; last = []; got = 0; against = [] }
 
--- the Identifier of the last of so many requests
+-- the Identifier of the request of that ordinal
 abbrev pub last_of : ℕ → ℕ
 last_of n = (FIRST_ID + n + 255) % 256
 

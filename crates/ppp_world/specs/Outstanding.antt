@@ -1,4 +1,4 @@
--- A step is refused that makes a span wider than 255: whose, how many requests it has sent, and the oldest of which
+-- A step is refused that makes a span wider than 255: whose, the ordinal of its last request, and the oldest of which
 -- something is under way. End a comes first.
 use Rattle.std.specs.Prelude.{ℕ, nat_lt, if◌then◌else◌, List, ◌++◌, Option, Some, None}
 use Rattle.ppp_packet.specs.Proto.{proto_number}
@@ -10,7 +10,7 @@ use Rattle.ppp_script.specs.declared.end.End.TheVariants.{A, B}
 use Rattle.ppp_world.specs.declared.outstanding.Outstanding.{Outstanding}
 use Rattle.ppp_world.specs.declared.step.TheConstants.{ONLY_LINK}
 
--- the oldest request of an end that has sent n, of which something is under way; n if there is none
+-- the oldest request of an end whose last one is the n-th, of which something is under way; n if there is none
 abbrev pub oldest_of : ℕ → List Marked → List Marked → ℕ
 oldest_of n out back = least n (requests out ++ answers back)
 

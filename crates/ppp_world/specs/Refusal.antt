@@ -1,27 +1,15 @@
 -- The refusal of a step.
-use Rattle.std.specs.Prelude.{ℕ, ◌==◌, if◌then◌else◌, List, ◌++◌, Option, Some, None, codes}
+use Rattle.std.specs.Prelude.{ℕ, List, ◌++◌, Option, Some, None, codes}
 use Rattle.std.specs.Fmt.{decimal}
-use Rattle.ppp_packet.specs.Proto.{proto_number, proto_name}
+use Rattle.ppp_packet.specs.Proto.{proto_of, proto_name}
 use Rattle.ppp_packet.specs.declared.proto.Proto.{Proto}
-use Rattle.ppp_packet.specs.declared.proto.Proto.TheVariants.{Lcp, Ip, Ipv6, Osi, Mpls, Bacp}
 use Rattle.ppp_script.specs.End.{end_name}
 use Rattle.ppp_world.specs.declared.outstanding.Outstanding.{Outstanding as Outstanding'}
 use Rattle.ppp_world.specs.declared.refusal.Refusal.{Refusal}
 use Rattle.ppp_world.specs.declared.world_fault.WorldFault.{WorldFault}
 use Rattle.ppp_world.specs.declared.world_fault.WorldFault.TheVariants.{Memory, Outstanding}
 
--- the protocol of a number, if it is one's
-abbrev pub proto_of : ℕ → Option Proto
-proto_of n =
-    if n == proto_number Lcp then Some Lcp
-    else if n == proto_number Ip then Some Ip
-    else if n == proto_number Ipv6 then Some Ipv6
-    else if n == proto_number Osi then Some Osi
-    else if n == proto_number Mpls then Some Mpls
-    else if n == proto_number Bacp then Some Bacp
-    else None
-
--- its name, or the number
+-- a protocol by its name, or by the number where it has none
 abbrev pub named_or : Option Proto → ℕ → List ℕ
 named_or (Some proto) n = proto_name proto
 named_or None n = decimal n
@@ -45,7 +33,4 @@ refusal_text r = codes "outstanding step " ++ decimal r.step ++ codes " " ++ out
 -- the refusal of the step of that number
 abbrev pub refusal_in : ℕ → WorldFault → Option Refusal
 refusal_in step Memory = None
-refusal_in step (Outstanding end link protocol sent oldest) = Some (record {
-  step = step;
-  fault = record { end = end; link = link; protocol = protocol; sent = sent; oldest = oldest };
-})
+refusal_in step (Outstanding fault) = Some (record { step = step; fault = fault })

@@ -100,6 +100,11 @@ before_refusal (m ∷ ms) = kept_with m (outstanding_in m.after) (before_refusal
 abbrev pub report_of : Settings → List Event → List ℕ
 report_of s events = report (before_refusal (run_of s events))
 
--- two Opened ends agree in every state of a run
+-- two Opened ends agree after every step of a run
 abbrev pub AgreesThroughout : List Moment → Type 0
 AgreesThroughout ms = All (λ m. AgreesEverywhere m.after) ms
+
+-- and so they do from the start of the run of these events up to the first step that is refused
+pub record AgreesInRun (s : Settings) (events : List Event) : Type 0 where
+  pub first : AgreesEverywhere (place_begun s).duet
+  pub each : AgreesThroughout (before_refusal (run_of s events))

@@ -1,6 +1,6 @@
 -- A world as its calls see it: the settings and the state, the steps done, the report so far, and why it takes no
 -- further step.
-use Rattle.std.specs.Prelude.{◌≡◌, ℕ, ◌+◌, ◌*◌, ◌≤◌, List, [], ◌∷◌, ◌++◌, length, Option, Some, None, Result, Ok, Err, ⊤}
+use Rattle.std.specs.Prelude.{◌≡◌, ℕ, ◌*◌, ◌≤◌, List, [], ◌∷◌, ◌++◌, length, Option, Some, None, Result, Ok, Err, ⊤}
 use Rattle.std.specs.List.{AllByRecursion}
 use Rattle.ppp_duet.specs.Duet.{Duet, start, run, Event as Event', Happening, Commands, SetsCap, RejectsProtocol, Delivers, Loses, Reboots}
 use Rattle.ppp_duet.specs.Reached.{Reached}
@@ -38,13 +38,10 @@ world_of ends steps report halt = record {
 abbrev pub place_of : World → Place
 place_of w = record { done = w.steps; duet = w.duet }
 
-abbrev pub fault_of : Outstanding' → WorldFault
-fault_of o = Outstanding o.end o.link o.protocol o.sent o.oldest
-
 -- The step of a moment is counted and its report written, unless it is refused.
 abbrev pub written_by : World → Moment → Option Outstanding' → World
 written_by w m None = record w { duet = m.after; steps = m.number; report = w.report ++ shown m; halt = None }
-written_by w m (Some fault) = record w { duet = m.after; halt = Some (fault_of fault) }
+written_by w m (Some fault) = record w { duet = m.after; halt = Some (Outstanding fault) }
 
 -- nothing more is done after a halt
 abbrev pub unless_halted : Option WorldFault → World → World → World
@@ -83,7 +80,7 @@ fault_in (Err fault) = Some fault
 abbrev pub UnlessMemory : Option WorldFault → Type 0 → Type 0
 UnlessMemory None fact = fact
 UnlessMemory (Some Memory) fact = Unit {0}
-UnlessMemory (Some (Outstanding end link protocol sent oldest)) fact = fact
+UnlessMemory (Some (Outstanding fault)) fact = fact
 
 -- Each step is a list of the duet's events, of which only the first may be a delivery.
 abbrev pub IsNoDelivery : Happening → Type 0

@@ -10,6 +10,7 @@ ghost use Rattle.ppp_packet.specs.declared.proto.Proto.TheVariants.{Lcp};
 ghost use Rattle.ppp_auto.specs.Taken.{four_octets};
 ghost use Rattle.ppp_auto.specs.Reply.{has_kind};
 ghost use Rattle.ppp_world.specs.Lcp as spec;
+ghost use Rattle.ppp_world.specs.declared.lcp.TheConstants.{LEAST_MRU, MAGIC, MAGIC_OCTETS, MOST_MRU, MRU, MRU_OCTETS};
 ghost use Rattle.ppp_world.specs.LcpLawful.{lcp_lawful};
 
 use byteorder::{BigEndian, ByteOrder};
@@ -51,8 +52,8 @@ pub(crate) struct LcpTable {
 impl LcpTable {
     /// The table of an end with this Maximum-Receive-Unit, in octets, that asks for a Magic-Number or doesn't.
     pub(crate) fn new(mru: u16, magic: bool) -> LcpTable
-        requires least { 128 ≤ mru }
-        requires most { mru ≤ 8192 }
+        requires least { LEAST_MRU ≤ mru }
+        requires most { mru ≤ MOST_MRU }
         ensures mru { result.mru ≡ mru }
         ensures magic { result.magic ≡ magic }
     {
@@ -170,7 +171,7 @@ fn magic_octets(magic: u32) -> [u8; 4]
 
 /// The number in the two octets of a Maximum-Receive-Unit.
 fn mru_in(body: &[u8]) -> u16
-    requires { length body.now ≡ 2 }
+    requires { length body.now ≡ MRU_OCTETS }
     ensures { result ≡ spec.number body.now }
 {
     BigEndian::read_u16(body)
@@ -178,7 +179,7 @@ fn mru_in(body: &[u8]) -> u16
 
 /// The number in the four octets of a Magic-Number.
 pub(crate) fn magic_in(body: &[u8]) -> u32
-    requires { length body.now ≡ 4 }
+    requires { length body.now ≡ MAGIC_OCTETS }
     ensures { result ≡ spec.number body.now }
 {
     BigEndian::read_u32(body)
@@ -223,7 +224,8 @@ pub(crate) fn magic_of(list: &Options<'_>) -> u32
 
 /// The body of the first option of this Type. None exactly where the list has no option of it.
 fn first_of<'a>(list: &Options<'a>, kind: u8) -> Option<&'a [u8]>
-    ensures { MatchOption result (find_kind kind list.now ≡ None) (λ body. find_kind kind list.now ≡ Some body.now) }
+    ensures { MatchOption result (find_kind kind list.now ≡ None)
+        (λ body. find_kind kind list.now ≡ Some body.now) }
 {
     let mut left = list.copied();
     while let Some((option, behind)) = left.split_first() {
@@ -269,7 +271,8 @@ fn judge_magic(own: u32, body: &[u8], word: u64) -> Verdict
 /// Puts what a Nak makes of an own option at the end of a list that has room for the option.
 fn put_after_nak(list: &mut OptList, option: OptRef<'_>, nak: &Options<'_>, word: u64)
     requires room { length (written list.old) + (2 + length option.body.now) ≤ 128 }
-    ensures { list.new ≡ list.old ++ spec.option_after nak.now word (option_seen option.entry) ∷ [] }
+    ensures { list.new ≡ list.old
+        ++ spec.option_after nak.now word (option_seen option.entry) ∷ [] }
 {
     match option.kind {
         MRU => put(list, MRU, mru_after(option.body, nak)),
@@ -280,7 +283,7 @@ fn put_after_nak(list: &mut OptList, option: OptRef<'_>, nak: &Options<'_>, word
 
 /// What a Nak makes of the body of an own Maximum-Receive-Unit.
 fn mru_after<'a>(last: &'a [u8], nak: &Options<'a>) -> &'a [u8]
-    ensures { result.now ≡ spec.mru_after last.now (find_kind 1 nak.now) }
+    ensures { result.now ≡ spec.mru_after last.now (find_kind MRU nak.now) }
 {
     match first_of(nak, MRU) {
         Some(body) if last.len() == MRU_OCTETS && is_sent_mru(body) => body,
@@ -305,7 +308,8 @@ pub(crate) fn is_sent_mru(body: &[u8]) -> bool
 /// Puts what a Nak makes of an own Magic-Number at the end of a list that has room for it.
 fn put_magic_after(list: &mut OptList, last: &[u8], nak: &Options<'_>, word: u64)
     requires room { length (written list.old) + (2 + length last.now) ≤ 128 }
-    ensures { list.new ≡ list.old ++ option_with 5 (spec.magic_after last.now (find_kind 5 nak.now) word) ∷ [] }
+    ensures { list.new ≡ list.old
+        ++ option_with MAGIC (spec.magic_after last.now (find_kind MAGIC nak.now) word) ∷ [] }
 {
     match first_of(nak, MAGIC) {
         Some(body) if last.len() == MAGIC_OCTETS && body.len() == MAGIC_OCTETS => {
@@ -319,8 +323,8 @@ fn put_magic_after(list: &mut OptList, last: &[u8], nak: &Options<'_>, word: u64
 /// for it.
 fn put_new_magic(list: &mut OptList, own: u32, body: &[u8], word: u64)
     requires room { length (written list.old) + 6 ≤ 128 }
-    requires size { length body.now ≡ 4 }
-    ensures { list.new ≡ list.old ++ option_with 5 (spec.magic_taken own body.now word) ∷ [] }
+    requires size { length body.now ≡ MAGIC_OCTETS }
+    ensures { list.new ≡ list.old ++ option_with MAGIC (spec.magic_taken own body.now word) ∷ [] }
 {
     if is_free(own, magic_in(body)) {
         put(list, MAGIC, body);

@@ -14,7 +14,7 @@ use std::marker::Model;
 /// The Identifier of an end's first Configure-Request.
 pub(crate) const FIRST_ID: u8 = 1;
 
-/// How many Configure-Requests an end has sent, the list of the last one, the ordinal of the peer's last one that it
+/// The ordinal of the last Configure-Request that an end has sent, the list of it, the ordinal of the peer's last one that it
 /// took in, and the own list when the request was judged that it acknowledged last.
 #[derive(Drop)]
 pub(crate) struct Ledger {
@@ -48,7 +48,7 @@ impl Ledger {
         }
     }
 
-    /// How many Configure-Requests were sent, but for those that repeat another.
+    /// The ordinal of the last Configure-Request that was sent, 0 before the first.
     pub(crate) fn sent(&self) -> u64
         ensures { result ≡ self.now.n }
     {
@@ -105,7 +105,7 @@ impl Ledger {
     }
 }
 
-/// The Identifier of the last of so many Configure-Requests.
+/// The Identifier of the Configure-Request of that ordinal.
 fn last_id(sent: u64) -> u8
     requires { sent + 256 < 2 ^ 64 }
     ensures { result ≡ last_of sent }

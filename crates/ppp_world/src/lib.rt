@@ -1,4 +1,9 @@
-//! Two ends of a link and the queues between them, stepped by the events of a script.
+//! Two ends of a link and the queues between them, stepped by the events of a script: LCP alone on one link (RFC 1661).
+//!
+//! [`replay`] runs a whole script and answers a [`Replayed`]: the report, and the [`Refusal`] of the first step that is
+//! refused, which prints itself. [`World`] is the same step by step: `step` for each event, `agree` and `report` between
+//! them. A step is refused with [`Outstanding`] where an Identifier no longer tells the requests under way apart, and
+//! after that every call gives the same refusal. There is no clock, and nothing is read or written outside.
 #![tactic(auto)]
 
 mod agreement;

@@ -1,7 +1,7 @@
 //! The refusal of a span that is too wide.
 
-ghost use Rattle.std.specs.Prelude.{◌≡◌, Some};
-ghost use Rattle.ppp_world.specs.Refusal.{outstanding_text, proto_of, protocol_text, span_text, whose_text};
+ghost use Rattle.std.specs.Prelude.{Some};
+ghost use Rattle.ppp_world.specs.Refusal.{outstanding_text, protocol_text, span_text, whose_text};
 
 use ppp_packet::Proto;
 use ppp_script::End;
@@ -17,7 +17,7 @@ pub struct Outstanding {
     pub link: u8,
     /// The protocol's number (RFC 1661 section 2).
     pub protocol: u16,
-    /// How many requests the end has sent, but for those that repeat another.
+    /// The ordinal of the last request that the end has sent.
     pub sent: u64,
     /// The ordinal of the oldest of which something is under way.
     pub oldest: u64,
@@ -72,24 +72,9 @@ impl fmt::Display for Protocol {
     ghost output = { λ p. Some (protocol_text p.0) };
 
     fn fmt<W: fmt::Write>(&self, f: &mut fmt::Formatter<W>) -> fmt::Result {
-        match proto_of(self.0) {
-            Some(proto) => write!(f, "{proto}"),
-            None => write!(f, "{}", self.0),
+        match Proto::try_from(self.0) {
+            Ok(proto) => write!(f, "{proto}"),
+            Err(_) => write!(f, "{}", self.0),
         }
-    }
-}
-
-/// The protocol of a number, if it is one's.
-fn proto_of(number: u16) -> Option<Proto>
-    ensures { result ≡ proto_of number }
-{
-    match number {
-        0xc021 => Some(Proto::Lcp),
-        0x8021 => Some(Proto::Ip),
-        0x8057 => Some(Proto::Ipv6),
-        0x8023 => Some(Proto::Osi),
-        0x8281 => Some(Proto::Mpls),
-        0xc02b => Some(Proto::Bacp),
-        _ => None,
     }
 }

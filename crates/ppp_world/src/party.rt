@@ -87,7 +87,7 @@ impl Party {
         post(out, &mut self.ledger, frame.mark(), queue, alloc)
     }
 
-    /// How many Configure-Requests it has sent, but for those that repeat another.
+    /// The ordinal of the last Configure-Request that it has sent, 0 before the first.
     pub(crate) fn sent(&self) -> u64
         ensures { result ≡ self.now.ledger.n }
     {

@@ -1,11 +1,11 @@
 //! The replay of a script.
 
 ghost use Rattle.std.specs.Prelude.{◌≡◌, ◌+◌, ◌≤◌, None, IsSome, IfOk};
+ghost use Rattle.ppp_script.specs.declared.script.TheConstants.{MOST_STEPS};
 ghost use Rattle.ppp_world.specs.Refusal.{refusal_in};
-ghost use Rattle.ppp_world.specs.Run.{before_refusal, refusal, report, report_of, run_of, AgreesThroughout};
+ghost use Rattle.ppp_world.specs.Run.{refusal, report, report_of, run_of, AgreesInRun};
 ghost use Rattle.ppp_world.specs.Settings.{default_settings};
 
-use crate::outstanding::Outstanding;
 use crate::refusal::Refusal;
 use crate::world::World;
 use crate::world_fault::WorldFault;
@@ -29,7 +29,7 @@ pub fn replay(alloc: Global, script: &Script<Event>) -> Result<Replayed, Memory>
     ensures refused { IfOk result (λ r. r.refused ≡ refusal (run_of default_settings script.now)) }
     ensures whole { IfOk result
         (λ r. r.refused ≡ None → r.report.items ≡ report (run_of default_settings script.now)) }
-    ensures agreement { AgreesThroughout (before_refusal (run_of default_settings script.now)) }
+    ensures agreement { AgreesInRun default_settings script.now }
 {
     let mut world = World::new(alloc)?;
     for i in 0..script.count() {
@@ -46,7 +46,7 @@ pub fn replay(alloc: Global, script: &Script<Event>) -> Result<Replayed, Memory>
 
 /// What a replay comes to that a world ended by refusing a step.
 fn stopped(world: World, fault: WorldFault) -> Result<Replayed, Memory>
-    requires { world.steps ≤ 100000 }
+    requires { world.steps ≤ MOST_STEPS }
     ensures report { IfOk result (λ replayed. replayed.report.items ≡ world.report) }
     ensures refused { IfOk result (λ r. r.refused ≡ refusal_in (world.steps + 1) fault) }
     ensures some { IfOk result (λ replayed. IsSome replayed.refused) }
@@ -54,24 +54,9 @@ fn stopped(world: World, fault: WorldFault) -> Result<Replayed, Memory>
     let step = world.steps() + 1;
     match fault {
         WorldFault::Memory => Err(Memory),
-        WorldFault::Outstanding {
-            end,
-            link,
-            protocol,
-            sent,
-            oldest,
-        } => Ok(Replayed {
+        WorldFault::Outstanding(fault) => Ok(Replayed {
             report: world.into_report(),
-            refused: Some(Refusal {
-                step,
-                fault: Outstanding {
-                    end,
-                    link,
-                    protocol,
-                    sent,
-                    oldest,
-                },
-            }),
+            refused: Some(Refusal { step, fault }),
         }),
     }
 }

@@ -10,12 +10,12 @@ ghost use Rattle.ppp_world.specs.Step.{moved, next_delivery, word_of};
 ghost use Rattle.ppp_world.specs.TwoEnds.{acted, duet_seen, ends_begun, settings_of, AreKept};
 ghost use Rattle.ppp_world.specs.declared.queue.TheConstants.{ROOM};
 
+use crate::lcp::LcpTable;
 use crate::outstanding::Outstanding;
 use crate::party::Party;
 use crate::queue::Queue;
 use crate::step::{Happening, ONLY_LINK, Step};
-use ppp_auto::{Memory, Outbox};
-use ppp_packet::Proto;
+use ppp_auto::{Memory, OptionTable, Outbox};
 use ppp_script::End;
 use std::alloc::Global;
 use std::marker::Model;
@@ -181,7 +181,7 @@ fn act(
     }
 }
 
-/// An end's span, if it is too wide: after so many requests, with what is under way from it and back to it.
+/// An end's span, if it is too wide: after the request of that ordinal, with what is under way from it and back to it.
 fn outstanding_of(end: End, sent: u64, out: &Queue, back: &Queue) -> Option<Outstanding>
     requires { oldest_of sent out.now back.now
         ≡ least sent (take 1 (requests out.now) ++ take 1 (answers back.now)) }
@@ -196,7 +196,7 @@ fn outstanding_of(end: End, sent: u64, out: &Queue, back: &Queue) -> Option<Outs
     Some(Outstanding {
         end,
         link: ONLY_LINK,
-        protocol: Proto::Lcp.number(),
+        protocol: LcpTable::PROTOCOL,
         sent,
         oldest,
     })

@@ -4,13 +4,14 @@ ghost use Rattle.std.specs.Prelude.{◌≡◌, ◌≢◌, ◌↔◌, ◌+◌, �
 ghost use Rattle.std.specs.String.{string_bytes};
 ghost use Rattle.ppp_duet.specs.Reached.{OldestFirst};
 ghost use Rattle.ppp_script.specs.Event.{steps_in};
+ghost use Rattle.ppp_script.specs.declared.script.TheConstants.{MOST_STEPS};
 ghost use Rattle.ppp_world.specs.Agreement.{agree_at, AreOpenedAt};
 ghost use Rattle.ppp_world.specs.Outstanding.{outstanding_in};
 ghost use Rattle.ppp_world.specs.Run.{shown_at};
 ghost use Rattle.ppp_world.specs.Settings.{default_settings};
 ghost use Rattle.ppp_world.specs.Step.{moved};
 ghost use Rattle.ppp_world.specs.TwoEnds.{duet_seen, settings_of, AreKept};
-ghost use Rattle.ppp_world.specs.World.{answer_of, does_step, fault_in, fault_of, settled, world_after, world_begun, world_of, AreLed, Makes, UnlessMemory};
+ghost use Rattle.ppp_world.specs.World.{answer_of, does_step, fault_in, settled, world_after, world_begun, world_of, AreLed, Makes, UnlessMemory};
 
 use crate::agreement::agree;
 use crate::outstanding::Outstanding;
@@ -64,7 +65,7 @@ impl World {
     /// span more than 255 ordinals: those before it are done and counted. After a refusal no further step is done, and
     /// every call gives the same refusal.
     pub fn step(&mut self, event: &Event) -> Result<(), WorldFault>
-        requires { self.old.steps + steps_in event.now ≤ 100000 }
+        requires { self.old.steps + steps_in event.now ≤ MOST_STEPS }
         ensures done { UnlessMemory self.new.halt (self.new ≡ world_after self.old event.now) }
         ensures makes { UnlessMemory self.new.halt
             (Makes self.old.settings (steps_in event.now) self.old.duet self.new.duet) }
@@ -117,7 +118,7 @@ impl World {
 
     /// Does the steps of an event, unless the world has halted.
     fn run(&mut self, event: &Event)
-        requires { self.old.steps + steps_in event.now ≤ 100000 }
+        requires { self.old.steps + steps_in event.now ≤ MOST_STEPS }
         ensures done { UnlessMemory self.new.halt (self.new ≡ world_after self.old event.now) }
         ensures halted { IsSome self.old.halt → self.new ≡ self.old }
         ensures steps { self.new.steps ≤ self.old.steps + steps_in event.now }
@@ -130,7 +131,7 @@ impl World {
 
     /// Does that many deliveries, each of the front frame of the first queue that isn't empty.
     fn settle(&mut self, count: u16)
-        requires { self.old.steps + count ≤ 100000 }
+        requires { self.old.steps + count ≤ MOST_STEPS }
         ensures done { UnlessMemory self.new.halt (self.new ≡ settled count self.old) }
         ensures halted { IsSome self.old.halt → self.new ≡ self.old }
         ensures steps { self.new.steps ≤ self.old.steps + count }
@@ -143,7 +144,7 @@ impl World {
 
     /// Does a step, unless the world has halted.
     fn take(&mut self, step: Step)
-        requires { self.old.steps + 1 ≤ 100000 }
+        requires { self.old.steps + 1 ≤ MOST_STEPS }
         ensures done { UnlessMemory self.new.halt (self.new ≡ does_step self.old step) }
         ensures halted { IsSome self.old.halt → self.new ≡ self.old }
         ensures steps { self.new.steps ≤ self.old.steps + 1 }
@@ -166,10 +167,10 @@ fn go(
     step: Step,
 ) -> Result<(), WorldFault>
     requires led { AreLed ends.old steps.old }
-    requires few { steps.old + 1 ≤ 100000 }
+    requires few { steps.old + 1 ≤ MOST_STEPS }
     ensures done { UnlessMemory (fault_in result)
         (world_of ends.new steps.new (string_bytes report.new) (fault_in result)
-            ≡ does_step (world_of ends.old steps.old (string_bytes report.old) None) step) }
+        ≡ does_step (world_of ends.old steps.old (string_bytes report.old) None) step) }
     ensures led { OnOk result (AreLed ends.new steps.new) }
     ensures steps { steps.new ≤ steps.old + 1 }
 {
@@ -181,7 +182,7 @@ fn go(
         Err(Memory) => return Err(WorldFault::Memory),
     }
     if let Some(fault) = wider_since(ends, sent_a, sent_b) {
-        return Err(refused(fault));
+        return Err(WorldFault::Outstanding(fault));
     }
     match show(report, number, step, ends) {
         Ok(()) => {}
@@ -202,19 +203,6 @@ fn wider_since(ends: &TwoEnds, sent_a: u64, sent_b: u64) -> Option<Outstanding>
         None
     } else {
         ends.outstanding()
-    }
-}
-
-/// Why a step is refused that makes a span too wide.
-fn refused(span: Outstanding) -> WorldFault
-    ensures { result ≡ fault_of span }
-{
-    WorldFault::Outstanding {
-        end: span.end,
-        link: span.link,
-        protocol: span.protocol,
-        sent: span.sent,
-        oldest: span.oldest,
     }
 }
 

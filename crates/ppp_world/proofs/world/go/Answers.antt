@@ -1,4 +1,4 @@
-use Rattle.std.proofs.Common.{◌≡◌, ◌∙◌, sym, arith, None, Some}
+use Rattle.std.proofs.Common.{◌≡◌, ◌∙◌, sym, arith}
 use Rattle.ppp_world.proofs.WorldLemmas.{done_as, led_on, oldest_on, refused_as, still_on}
 use Rattle.ppp_world.proofs.world.go.Goals as goal
 
@@ -13,7 +13,7 @@ wider_since-requires-clause-still c =
 
 pub returns-in-Some-clause-done : goal.returns-in-Some-clause-done
 returns-in-Some-clause-done c =
-    rw c.refused.ensures (refused_as c.args.ends.now c.advance.new.ends c.args.steps.now _ c.args.step c.in-Some.fault c.advance.ensures.settings c.in-Ok.ensures.done (sym c.wider_since.ensures ∙ c.in-Some.is))
+    refused_as c.args.ends.now c.advance.new.ends c.args.steps.now _ c.args.step c.in-Some.fault c.advance.ensures.settings c.in-Ok.ensures.done (sym c.wider_since.ensures ∙ c.in-Some.is)
 
 pub returns-clause-done : goal.returns-clause-done
 returns-clause-done c =

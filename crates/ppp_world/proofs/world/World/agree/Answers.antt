@@ -1,4 +1,4 @@
-use Rattle.std.proofs.Common.{◌≡◌, sym, ap, ◌∙◌, None}
+use Rattle.std.proofs.Common.{sym, ap, ◌∙◌}
 use Rattle.ppp_packet.specs.declared.proto.Proto.TheVariants.{Lcp}
 use Rattle.ppp_world.specs.TwoEnds.{duet_seen, settings_of}
 use Rattle.ppp_world.specs.World.{World}
