@@ -107,6 +107,17 @@ narrow_delivered s a b (m ∷ rest) to_b word h =
     (takes_near s a m word b.n (all_front (IsNear b.n) (request_mark m.mark m.packet) (requests rest) theirs.asked)) in
     record { of_a = stays.of_a; of_b = stays.of_b }
 
+-- a loss widens no span
+loss_first : (sa sb : Setup) (d : Duet) (place word : ℕ) → let d' = at_first sa sb d (Loses place) word in
+    (span_of d.a.n d.to_b d.to_a ≤ widest → span_of d'.a.n d'.to_b d'.to_a ≤ widest) × (span_of d.b.n d.to_a d.to_b ≤ widest → span_of d'.b.n d'.to_a d'.to_b ≤ widest)
+unfolding at_first
+loss_first sa sb d place word = (
+  λ h. let mine = near_span d.a.n d.to_b d.to_a h in
+      span_near d.a.n d.to_b (without place d.to_a) (record { asked = mine.asked; answered = marks_without by_answer (IsNear d.a.n) place d.to_a mine.answered }),
+  λ h. let theirs = near_span d.b.n d.to_a d.to_b h in
+      span_near d.b.n (without place d.to_a) d.to_b (record { asked = marks_without by_request (IsNear d.b.n) place d.to_a theirs.asked; answered = theirs.answered }),
+)
+
 narrow_first : (sa sb : Setup) (d : Duet) (what : Happening) (word : ℕ) → Narrow d → StaysNarrow d (at_first sa sb d what word)
 unfolding at_first
 narrow_first sa sb d (Commands e) word h =
@@ -120,12 +131,8 @@ narrow_first sa sb d (RejectsProtocol id octets) word h =
     (record { asked = tt; answered = tt })
 narrow_first sa sb d Delivers word h = narrow_delivered sa d.a d.b d.to_a d.to_b word h
 narrow_first sa sb d (Loses place) word h =
-    let mine = near_span d.a.n d.to_b d.to_a h.of_a in
-    let theirs = near_span d.b.n d.to_a d.to_b h.of_b in
-    record {
-      of_a = λ still. span_near d.a.n d.to_b (without place d.to_a) (record { asked = mine.asked; answered = marks_without by_answer (IsNear d.a.n) place d.to_a mine.answered });
-      of_b = λ still. span_near d.b.n (without place d.to_a) d.to_b (record { asked = marks_without by_request (IsNear d.b.n) place d.to_a theirs.asked; answered = theirs.answered });
-    }
+    let losing = loss_first sa sb d place word in
+    record { of_a = λ still. losing.0 h.of_a; of_b = λ still. losing.1 h.of_b }
 narrow_first sa sb d Reboots word h = record { of_a = λ still. omega arith; of_b = λ still. omega arith }
 
 narrow_at : (side : Side) (sa sb : Setup) (d : Duet) (what : Happening) (word : ℕ) → Narrow d → StaysNarrow d (at_side side sa sb d what word)
@@ -142,6 +149,11 @@ stays_narrow sa sb d e h = narrow_at e.side sa sb d e.what e.word h
 pub narrow_still : (sa sb : Setup) (d : Duet) (e : Event) → (happens sa sb d e).a.n ≤ d.a.n → (happens sa sb d e).b.n ≤ d.b.n → Narrow d →
     Narrow (happens sa sb d e)
 narrow_still sa sb d e still_a still_b h = let stays = stays_narrow sa sb d e h in record { of_a = stays.of_a still_a; of_b = stays.of_b still_b }
+
+pub loss_narrows : (sa sb : Setup) (side : Side) (d : Duet) (place word : ℕ) → let d' = at_side side sa sb d (Loses place) word in
+    (span_of d.a.n d.to_b d.to_a ≤ widest → span_of d'.a.n d'.to_b d'.to_a ≤ widest) × (span_of d.b.n d.to_a d.to_b ≤ widest → span_of d'.b.n d'.to_a d'.to_b ≤ widest)
+loss_narrows sa sb A d place word = loss_first sa sb d place word
+loss_narrows sa sb B d place word = let k = loss_first sb sa (turned d) place word in (k.1, k.0)
 
 pub narrow_start : (sa sb : Setup) → Narrow (start sa sb)
 narrow_start sa sb = record { of_a = omega arith; of_b = omega arith }

@@ -10,13 +10,13 @@ use Rattle.ppp_auto.specs.EventTable.{cell_of, asks}
 use Rattle.ppp_auto.specs.declared.input.Input.{Input}
 use Rattle.ppp_duet.specs.Duet.{Duet, End as End', Marked, Setup, Event, Loses, Side, A, B, at_first, does, does_if, takes, got_after, delivers, happens, run, turned, without}
 use Rattle.ppp_duet.specs.Reached.{Reached}
-use Rattle.ppp_duet.specs.Span.{Narrow, span_of, widest}
+use Rattle.ppp_duet.specs.Span.{Narrow, StaysNarrow, span_of, widest}
 use Rattle.ppp_duet.proofs.NarrowRunLemmas.{run_append}
 use Rattle.ppp_duet.proofs.ReachedLemmas.{reached_on}
-use Rattle.ppp_duet.proofs.SpanLemmas.{narrow_still}
+use Rattle.ppp_duet.proofs.SpanLemmas.{loss_narrows, stays_narrow}
 use Rattle.ppp_script.specs.declared.end.End.{End}
 use Rattle.ppp_script.specs.declared.end.End.TheVariants as end
-use Rattle.ppp_world.specs.Outstanding.{outstanding_of, or_else, outstanding_in}
+use Rattle.ppp_world.specs.Outstanding.{outstanding_of, outstanding_at, or_else, outstanding_in}
 use Rattle.ppp_world.specs.Settings.{Settings, setup_of}
 use Rattle.ppp_world.specs.Step.{event_of, happening_seen, moved, within_room, word_of}
 use Rattle.ppp_world.specs.World.{DeliversFirst, IsNoDelivery, IsCounted}
@@ -127,11 +127,12 @@ narrow_of d h =
     let each = neither (outstanding_of end.A d.a.n d.to_b d.to_a) (outstanding_of end.B d.b.n d.to_a d.to_b) h in
     record { of_a = fits_if _ _ (span_of d.a.n d.to_b d.to_a) refl each.0; of_b = fits_if _ _ (span_of d.b.n d.to_a d.to_b) refl each.1 }
 
-none_outstanding : (d : Duet) → Narrow d → outstanding_in d ≡ None
-none_outstanding d narrow =
-    let a : outstanding_of end.A d.a.n d.to_b d.to_a ≡ None = none_if _ _ (span_of d.a.n d.to_b d.to_a) refl narrow.of_a in
-    let b : outstanding_of end.B d.b.n d.to_a d.to_b ≡ None = none_if _ _ (span_of d.b.n d.to_a d.to_b) refl narrow.of_b in
-    rw a b
+-- where an end has drawn no ordinal, its span has not become too wide
+pub still_a : (d d' : Duet) → StaysNarrow d d' → d'.a.n ≤ d.a.n → outstanding_at end.A d' ≡ None
+still_a d d' stays still = none_if _ _ (span_of d'.a.n d'.to_b d'.to_a) refl (stays.of_a still)
+
+pub still_b : (d d' : Duet) → StaysNarrow d d' → d'.b.n ≤ d.b.n → outstanding_at end.B d' ≡ None
+still_b d d' stays still = none_if _ _ (span_of d'.b.n d'.to_a d'.to_b) refl (stays.of_b still)
 
 -- a step leads on from a narrow state
 pub reached_step : (s : Settings) (k : ℕ) (d : Duet) (step : Step) → Narrow d → Reached (setup_of s.a) (setup_of s.b) d → Reached (setup_of s.a) (setup_of s.b) (moved s k d step)
@@ -141,7 +142,7 @@ reached_step s k d (Happens at what) narrow r =
 reached_step s k d Reports narrow r = r
 reached_step s k d Rests narrow r = r
 
--- where no end has drawn an ordinal, no span has become too wide
+-- a step keeps the span of each end narrow that draws no ordinal
 loss_sends : (sa sb : Setup) (side : Side) (d : Duet) → ((happens sa sb d (loss side)).a.n ≡ d.a.n) × ((happens sa sb d (loss side)).b.n ≡ d.b.n)
 unfolding at_first
 loss_sends sa sb A d = (refl, refl)
@@ -151,15 +152,19 @@ room_sends : (d : Duet) → ((within_room d).a.n ≡ d.a.n) × ((within_room d).
 unfolding within_room
 room_sends d = (refl, refl)
 
-pub still_none : (s : Settings) (k : ℕ) (d : Duet) (step : Step) → Narrow d → (moved s k d step).a.n ≤ d.a.n → (moved s k d step).b.n ≤ d.b.n → outstanding_in (moved s k d step) ≡ None
-still_none s k d (Happens at what) narrow a b =
+loss_stays : (sa sb : Setup) (before : Duet) (side : Side) (d : Duet) → StaysNarrow before d → StaysNarrow before (happens sa sb d (loss side))
+loss_stays sa sb before side d stays =
+    let sends = loss_sends sa sb side d in
+    let narrows = loss_narrows sa sb side d (suc ROOM) 0 in
+    record { of_a = λ still. narrows.0 (stays.of_a (omega (arith, sends.0))); of_b = λ still. narrows.1 (stays.of_b (omega (arith, sends.1))) }
+
+pub stays_step : (s : Settings) (k : ℕ) (d : Duet) (step : Step) → Narrow d → StaysNarrow d (moved s k d step)
+stays_step s k d (Happens at what) narrow =
     let sa = setup_of s.a in let sb = setup_of s.b in
     let event = event_of k at what in
-    let same = room_sends (happens sa sb d event) in
-    none_outstanding _ (through_room sa sb Narrow (λ side x small. let sends = loss_sends sa sb side x in narrow_still sa sb x (loss side) (omega (arith, sends.0)) (omega (arith, sends.1)) small)
-    (happens sa sb d event) (narrow_still sa sb d event (omega (arith, same.0)) (omega (arith, same.1)) narrow))
-still_none s k d Reports narrow a b = none_outstanding d narrow
-still_none s k d Rests narrow a b = none_outstanding d narrow
+    through_room sa sb (StaysNarrow d) (loss_stays sa sb d) (happens sa sb d event) (stays_narrow sa sb d event narrow)
+stays_step s k d Reports narrow = record { of_a = λ still. narrow.of_a; of_b = λ still. narrow.of_b }
+stays_step s k d Rests narrow = record { of_a = λ still. narrow.of_a; of_b = λ still. narrow.of_b }
 
 -- a list of events, of which only the first may be a delivery, leads from a state to another
 pub record IsStep (s : Settings) (before after : Duet) : Type 0 where

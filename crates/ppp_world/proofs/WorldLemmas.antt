@@ -8,6 +8,7 @@ use Rattle.ppp_duet.specs.Reached.{OldestFirst, Reached}
 use Rattle.ppp_duet.proofs.ReachedLemmas.{oldest_at}
 use Rattle.ppp_script.specs.Event.{steps_in}
 use Rattle.ppp_script.specs.declared.event.Event.{Event}
+use Rattle.ppp_duet.specs.Span.{StaysNarrow}
 use Rattle.ppp_world.specs.Outstanding.{outstanding_in}
 use Rattle.ppp_world.specs.Run.{Moment, Place, moment_at, after_moment, deliveries, moments_of, place_after, run_from, shown, shown_at, report, refusal, refusal_with, before_refusal, kept_with}
 use Rattle.ppp_world.specs.Settings.{Settings, AreRanged, setup_of}
@@ -20,7 +21,7 @@ use Rattle.ppp_world.specs.declared.step.Step.{Step}
 use Rattle.ppp_world.specs.declared.world_fault.WorldFault.{WorldFault}
 use Rattle.ppp_world.specs.declared.world_fault.WorldFault.TheVariants.{Memory, Outstanding}
 use Rattle.ppp_world.proofs.RunLemmas.{Linked, linked_event, length-moments}
-use Rattle.ppp_world.proofs.StepLemmas.{narrow_of, reached_step, still_none, counted_step, IsStep, step_is}
+use Rattle.ppp_world.proofs.StepLemmas.{narrow_of, reached_step, stays_step, counted_step, IsStep, step_is}
 
 -- after a halt nothing changes
 halted_moment : (w : World) (m : Moment) (fault : WorldFault) → w.halt ≡ Some fault → does_moment w m ≡ w
@@ -223,10 +224,10 @@ pub oldest_on : (old new : TwoEnds) (steps : ℕ) (step : Step) → AreLed old s
 oldest_on old new steps step led is =
     subst OldestFirst (sym is) (oldest_at _ _ _ (reached_step (settings_of old) (steps + 1) (duet_seen old) step led.led.narrow led.led.reached))
 
-pub still_on : (old new : TwoEnds) (steps : ℕ) (step : Step) → AreLed old steps → duet_seen new ≡ moved (settings_of old) (steps + 1) (duet_seen old) step →
-    (duet_seen new).a.n ≤ (duet_seen old).a.n → (duet_seen new).b.n ≤ (duet_seen old).b.n → outstanding_in (duet_seen new) ≡ None
-still_on old new steps step led is a b =
-    subst (λ (d : Duet). outstanding_in d ≡ None) (sym is) (still_none (settings_of old) (steps + 1) (duet_seen old) step led.led.narrow (subst (λ (x : Duet). x.a.n ≤ (duet_seen old).a.n) is a) (subst (λ (x : Duet). x.b.n ≤ (duet_seen old).b.n) is b))
+pub stays_on : (old new : TwoEnds) (steps : ℕ) (step : Step) → AreLed old steps → duet_seen new ≡ moved (settings_of old) (steps + 1) (duet_seen old) step →
+    StaysNarrow (duet_seen old) (duet_seen new)
+stays_on old new steps step led is =
+    subst (StaysNarrow (duet_seen old)) (sym is) (stays_step (settings_of old) (steps + 1) (duet_seen old) step led.led.narrow)
 
 pub led_unless : (halt : Option WorldFault) (ends : TwoEnds) (steps : ℕ) → IsLedUnless halt ends steps → halt ≡ None → AreLed ends steps
 led_unless None ends steps led going = led

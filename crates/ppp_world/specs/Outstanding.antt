@@ -22,9 +22,13 @@ abbrev pub outstanding_of : End → ℕ → List Marked → List Marked → Opti
 outstanding_of e n out back =
     if nat_lt widest (span_of n out back) then Some (outstanding_with e n (oldest_of n out back)) else None
 
+abbrev pub outstanding_at : End → Duet → Option Outstanding
+outstanding_at A d = outstanding_of A d.a.n d.to_b d.to_a
+outstanding_at B d = outstanding_of B d.b.n d.to_a d.to_b
+
 abbrev pub or_else : {X : Type 0} → Option X → Option X → Option X
 or_else (Some x) other = Some x
 or_else None other = other
 
 abbrev pub outstanding_in : Duet → Option Outstanding
-outstanding_in d = or_else (outstanding_of A d.a.n d.to_b d.to_a) (outstanding_of B d.b.n d.to_a d.to_b)
+outstanding_in d = or_else (outstanding_at A d) (outstanding_at B d)

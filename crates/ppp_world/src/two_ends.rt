@@ -3,7 +3,7 @@
 ghost use Rattle.std.specs.Prelude.{◌≡◌, ◌≤◌, ◌<◌, ◌^◌, ◌++◌, take, length, OnOk, IfOk};
 ghost use Rattle.ppp_duet.specs.Reached.{OldestFirst};
 ghost use Rattle.ppp_duet.specs.Span.{answers, least, requests};
-ghost use Rattle.ppp_world.specs.Outstanding.{oldest_of, outstanding_in, outstanding_of};
+ghost use Rattle.ppp_world.specs.Outstanding.{oldest_of, outstanding_at, outstanding_of};
 ghost use Rattle.ppp_world.specs.Party.{end_seen, IsKept};
 ghost use Rattle.ppp_world.specs.Settings.{default_settings};
 ghost use Rattle.ppp_world.specs.Step.{moved, next_delivery, word_of};
@@ -107,14 +107,14 @@ impl TwoEnds {
         }
     }
 
-    /// The first span that is too wide, end a's before end b's.
-    pub(crate) fn outstanding(&self) -> Option<Outstanding>
+    /// An end's span, if it is too wide.
+    pub(crate) fn outstanding(&self, end: End) -> Option<Outstanding>
         requires { OldestFirst (duet_seen self.now) }
-        ensures { result ≡ outstanding_in (duet_seen self.now) }
+        ensures { result ≡ outstanding_at end (duet_seen self.now) }
     {
-        match outstanding_of(End::A, self.a.sent(), &self.to_b, &self.to_a) {
-            Some(fault) => Some(fault),
-            None => outstanding_of(End::B, self.b.sent(), &self.to_a, &self.to_b),
+        match end {
+            End::A => outstanding_of(End::A, self.a.sent(), &self.to_b, &self.to_a),
+            End::B => outstanding_of(End::B, self.b.sent(), &self.to_a, &self.to_b),
         }
     }
 

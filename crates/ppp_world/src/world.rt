@@ -6,7 +6,7 @@ ghost use Rattle.ppp_duet.specs.Reached.{OldestFirst};
 ghost use Rattle.ppp_script.specs.Event.{steps_in};
 ghost use Rattle.ppp_script.specs.declared.script.TheConstants.{MOST_STEPS};
 ghost use Rattle.ppp_world.specs.Agreement.{agree_at, AreOpenedAt};
-ghost use Rattle.ppp_world.specs.Outstanding.{outstanding_in};
+ghost use Rattle.ppp_world.specs.Outstanding.{outstanding_at, outstanding_in};
 ghost use Rattle.ppp_world.specs.Run.{shown_at};
 ghost use Rattle.ppp_world.specs.Settings.{default_settings};
 ghost use Rattle.ppp_world.specs.Step.{moved};
@@ -21,7 +21,7 @@ use crate::two_ends::TwoEnds;
 use crate::world_fault::WorldFault;
 use ppp_auto::Memory;
 use ppp_packet::Proto;
-use ppp_script::Event;
+use ppp_script::{End, Event};
 use std::alloc::Global;
 use std::marker::Model;
 
@@ -192,18 +192,27 @@ fn go(
     Ok(())
 }
 
-/// A span that is too wide, where one can have become so: no span becomes wider where its end draws no ordinal.
+/// The first span that is too wide, end a's before end b's. An end's is looked at only where it can have become wider:
+/// where the end drew an ordinal.
 fn wider_since(ends: &TwoEnds, sent_a: u64, sent_b: u64) -> Option<Outstanding>
     requires oldest { OldestFirst (duet_seen ends.now) }
-    requires still { ends.now.a.ledger.n ≤ sent_a → ends.now.b.ledger.n ≤ sent_b
-        → outstanding_in (duet_seen ends.now) ≡ None }
+    requires still_a { ends.now.a.ledger.n ≤ sent_a → outstanding_at End.A (duet_seen ends.now) ≡ None }
+    requires still_b { ends.now.b.ledger.n ≤ sent_b → outstanding_at End.B (duet_seen ends.now) ≡ None }
     ensures { result ≡ outstanding_in (duet_seen ends.now) }
 {
-    if ends.a().sent() <= sent_a && ends.b().sent() <= sent_b {
-        None
-    } else {
-        ends.outstanding()
+    match wider_at(ends, End::A, sent_a < ends.a().sent()) {
+        Some(fault) => Some(fault),
+        None => wider_at(ends, End::B, sent_b < ends.b().sent()),
     }
+}
+
+/// An end's span, if it is too wide. `drew` says that the end drew an ordinal.
+fn wider_at(ends: &TwoEnds, end: End, drew: bool) -> Option<Outstanding>
+    requires oldest { OldestFirst (duet_seen ends.now) }
+    requires still { drew ≡ false → outstanding_at end (duet_seen ends.now) ≡ None }
+    ensures { result ≡ outstanding_at end (duet_seen ends.now) }
+{
+    if drew { ends.outstanding(end) } else { None }
 }
 
 /// Does the step of that number.

@@ -1,15 +1,20 @@
 use Rattle.std.proofs.Common.{◌≡◌, ◌∙◌, sym, arith}
-use Rattle.ppp_world.proofs.WorldLemmas.{done_as, led_on, oldest_on, refused_as, still_on}
+use Rattle.ppp_world.proofs.WorldLemmas.{done_as, led_on, oldest_on, refused_as, stays_on}
+use Rattle.ppp_world.proofs.StepLemmas.{still_a, still_b}
 use Rattle.ppp_world.proofs.world.go.Goals as goal
 
 pub wider_since-requires-clause-oldest : goal.wider_since-requires-clause-oldest
 wider_since-requires-clause-oldest c = oldest_on c.args.ends.now c.advance.new.ends c.args.steps.now c.args.step c.requires.led c.in-Ok.ensures.done
 
-pub wider_since-requires-clause-still : goal.wider_since-requires-clause-still
-wider_since-requires-clause-still c =
+pub wider_since-requires-clause-still_a : goal.wider_since-requires-clause-still_a
+wider_since-requires-clause-still_a c =
     let a : c.sent-sent_a.result ≡ c.args.ends.now.a.ledger.n = cc in
+    λ none. still_a _ _ (stays_on c.args.ends.now c.advance.new.ends c.args.steps.now c.args.step c.requires.led c.in-Ok.ensures.done) (omega (arith, a, none))
+
+pub wider_since-requires-clause-still_b : goal.wider_since-requires-clause-still_b
+wider_since-requires-clause-still_b c =
     let b : c.sent-sent_b.result ≡ c.args.ends.now.b.ledger.n = cc in
-    λ none_a none_b. still_on c.args.ends.now c.advance.new.ends c.args.steps.now c.args.step c.requires.led c.in-Ok.ensures.done (omega (arith, a, none_a)) (omega (arith, b, none_b))
+    λ none. still_b _ _ (stays_on c.args.ends.now c.advance.new.ends c.args.steps.now c.args.step c.requires.led c.in-Ok.ensures.done) (omega (arith, b, none))
 
 pub returns-in-Some-clause-done : goal.returns-in-Some-clause-done
 returns-in-Some-clause-done c =
