@@ -3,11 +3,8 @@
 ghost use Rattle.std.specs.Prelude.{◌≡◌, IfOk};
 ghost use Rattle.std.specs.Process.{exit_status};
 ghost use Rattle.std.specs.Vec.Iter.{into_iter_items};
-ghost use Rattle.ppp_io.specs.Fault.{Rose};
-ghost use Rattle.ppp_cli.specs.Answer.{Answers};
 ghost use Rattle.ppp_cli.specs.Command.{command_in};
-ghost use Rattle.ppp_cli.specs.Process.{ExitsBy, behind_first, words_in};
-ghost use Rattle.ppp_cli.specs.Reply.{reply_to};
+ghost use Rattle.ppp_cli.specs.Process.{ExitsBy, MayEnd, behind_first, words_in};
 ghost use Rattle.ppp_cli.specs.Status.{code_of};
 
 use crate::run::ppp_run;
@@ -34,9 +31,9 @@ pub fn run_args<S: Source, K: Sink>(
     input: &mut S,
     output: &mut K,
 ) -> ExitCode
-    ensures { ExitsBy result (Answers (Rose (S.faults input.old) (S.faults input.new))
-        (reply_to (command_in (words_in args)) (S.left input.old))
-        (K.held output.old) (K.held output.new)) }
+    ensures { ExitsBy result (MayEnd (command_in (words_in args))
+        (S.left input.old) (S.left input.new) (K.held output.old) (K.held output.new)
+        (S.faults input.old) (S.faults input.new) (K.faults output.old) (K.faults output.new)) }
 {
     match words_behind_name(alloc, args) {
         Ok(words) => exit_code(ppp_run(alloc, &words, input, output)),
