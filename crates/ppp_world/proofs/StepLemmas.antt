@@ -127,6 +127,12 @@ narrow_of d h =
     let each = neither (outstanding_of end.A d.a.n d.to_b d.to_a) (outstanding_of end.B d.b.n d.to_a d.to_b) h in
     record { of_a = fits_if _ _ (span_of d.a.n d.to_b d.to_a) refl each.0; of_b = fits_if _ _ (span_of d.b.n d.to_a d.to_b) refl each.1 }
 
+pub none_outstanding : (d : Duet) → Narrow d → outstanding_in d ≡ None
+none_outstanding d narrow =
+    let a : outstanding_at end.A d ≡ None = none_if _ _ (span_of d.a.n d.to_b d.to_a) refl narrow.of_a in
+    let b : outstanding_at end.B d ≡ None = none_if _ _ (span_of d.b.n d.to_a d.to_b) refl narrow.of_b in
+    rw (a, b) refl
+
 -- where an end has drawn no ordinal, its span has not become too wide
 pub still_a : (d d' : Duet) → StaysNarrow d d' → d'.a.n ≤ d.a.n → outstanding_at end.A d' ≡ None
 still_a d d' stays still = none_if _ _ (span_of d'.a.n d'.to_b d'.to_a) refl (stays.of_a still)

@@ -18,10 +18,11 @@ use Rattle.ppp_world.specs.World.{World, world_of, place_of, written_by, unless_
 use Rattle.ppp_world.specs.declared.outstanding.Outstanding.{Outstanding as Outstanding'}
 use Rattle.ppp_world.specs.declared.refusal.Refusal.{Refusal}
 use Rattle.ppp_world.specs.declared.step.Step.{Step}
+use Rattle.ppp_world.specs.declared.step.Step.TheVariants.{Rests}
 use Rattle.ppp_world.specs.declared.world_fault.WorldFault.{WorldFault}
 use Rattle.ppp_world.specs.declared.world_fault.WorldFault.TheVariants.{Memory, Outstanding}
 use Rattle.ppp_world.proofs.RunLemmas.{Linked, linked_event, length-moments}
-use Rattle.ppp_world.proofs.StepLemmas.{narrow_of, reached_step, stays_step, counted_step, IsStep, step_is}
+use Rattle.ppp_world.proofs.StepLemmas.{narrow_of, reached_step, stays_step, counted_step, none_outstanding, IsStep, step_is}
 
 -- after a halt nothing changes
 halted_moment : (w : World) (m : Moment) (fault : WorldFault) → w.halt ≡ Some fault → does_moment w m ≡ w
@@ -219,6 +220,13 @@ led_on old new steps step led same kept is none = record {
     narrow = narrow_of (duet_seen new) none;
   };
 }
+
+-- nothing happens in a step but that it is counted
+pub rests_as : (ends : TwoEnds) (steps : ℕ) (text : List ℕ) → AreLed ends steps → world_of ends (steps + 1) text None ≡ does_step (world_of ends steps text None) Rests
+rests_as ends steps text led = done_as ends ends steps text text Rests refl refl (none_outstanding (duet_seen ends) led.led.narrow) (sym (append-nil text))
+
+pub rests_on : (ends : TwoEnds) (steps : ℕ) → AreLed ends steps → AreLed ends (steps + 1)
+rests_on ends steps led = led_on ends ends steps Rests led refl led.kept refl (none_outstanding (duet_seen ends) led.led.narrow)
 
 pub oldest_on : (old new : TwoEnds) (steps : ℕ) (step : Step) → AreLed old steps → duet_seen new ≡ moved (settings_of old) (steps + 1) (duet_seen old) step → OldestFirst (duet_seen new)
 oldest_on old new steps step led is =

@@ -175,6 +175,10 @@ fn go(
     ensures steps { steps.new ≤ steps.old + 1 }
 {
     let number = *steps + 1;
+    if let Step::Rests = step {
+        *steps = number;
+        return Ok(());
+    }
     let sent_a = ends.a().sent();
     let sent_b = ends.b().sent();
     match advance(ends, number, step) {

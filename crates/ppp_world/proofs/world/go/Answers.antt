@@ -1,5 +1,5 @@
 use Rattle.std.proofs.Common.{◌≡◌, ◌∙◌, sym, arith}
-use Rattle.ppp_world.proofs.WorldLemmas.{done_as, led_on, oldest_on, refused_as, stays_on}
+use Rattle.ppp_world.proofs.WorldLemmas.{done_as, led_on, oldest_on, refused_as, rests_as, rests_on, stays_on}
 use Rattle.ppp_world.proofs.StepLemmas.{still_a, still_b}
 use Rattle.ppp_world.proofs.world.go.Goals as goal
 
@@ -22,8 +22,15 @@ returns-in-Some-clause-done c =
 
 pub returns-clause-done : goal.returns-clause-done
 returns-clause-done c =
-    done_as c.args.ends.now c.advance.new.ends c.args.steps.now _ _ c.args.step c.advance.ensures.settings c.in-Ok.ensures.done (sym c.wider_since.ensures ∙ c.in_default.is) c.in-Ok-show.ensures
+    done_as c.args.ends.now c.advance.new.ends c.args.steps.now _ _ c.args.step c.advance.ensures.settings c.in-Ok.ensures.done (sym c.wider_since.ensures ∙ c.in_default-wider_since.is) c.in-Ok-show.ensures
 
 pub returns-clause-led : goal.returns-clause-led
 returns-clause-led c =
-    led_on c.args.ends.now c.advance.new.ends c.args.steps.now c.args.step c.requires.led c.advance.ensures.settings c.in-Ok.ensures.kept c.in-Ok.ensures.done (sym c.wider_since.ensures ∙ c.in_default.is)
+    led_on c.args.ends.now c.advance.new.ends c.args.steps.now c.args.step c.requires.led c.advance.ensures.settings c.in-Ok.ensures.kept c.in-Ok.ensures.done (sym c.wider_since.ensures ∙ c.in_default-wider_since.is)
+
+pub returns-in-Rests-clause-done : goal.returns-in-Rests-clause-done
+returns-in-Rests-clause-done c =
+    rw c.in-Rests.is (rests_as c.args.ends.now c.args.steps.now _ c.requires.led)
+
+pub returns-in-Rests-clause-led : goal.returns-in-Rests-clause-led
+returns-in-Rests-clause-led c = rests_on c.args.ends.now c.args.steps.now c.requires.led
