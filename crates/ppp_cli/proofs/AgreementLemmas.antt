@@ -9,11 +9,11 @@ use Rattle.ppp_script.specs.Event.{event_form}
 use Rattle.ppp_script.specs.Script.{Refusal, events_of}
 use Rattle.ppp_script.specs.declared.event.Event.{Event}
 use Rattle.ppp_text.specs.Parts.{script_in}
-use Rattle.ppp_world.proofs.RunLemmas.{each_agrees, ranged_by_default}
+use Rattle.ppp_world.proofs.RunLemmas.{agrees_in_run, ranged_by_default}
 use Rattle.ppp_world.specs.Settings.{default_settings}
 
 agrees_if_read : (read : Result (List Event) Refusal) → AgreesIfRead read
-agrees_if_read (Ok events) = each_agrees default_settings ranged_by_default events
+agrees_if_read (Ok events) = agrees_in_run default_settings ranged_by_default events
 agrees_if_read (Err refused) = tt
 
 pub agrees_if_replayed : (command : Option Command) (told : Option (List ℕ)) → AgreesIfReplayed command told

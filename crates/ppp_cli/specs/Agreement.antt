@@ -7,12 +7,12 @@ use Rattle.ppp_script.specs.Event.{event_form}
 use Rattle.ppp_script.specs.Script.{Refusal, events_of}
 use Rattle.ppp_script.specs.declared.event.Event.{Event}
 use Rattle.ppp_text.specs.Parts.{script_in}
-use Rattle.ppp_world.specs.Run.{run_of, before_refusal, AgreesThroughout}
+use Rattle.ppp_world.specs.Run.{AgreesInRun}
 use Rattle.ppp_world.specs.Settings.{default_settings}
 
 -- they do in every state of a script's run, up to the first step that is refused
 abbrev pub AgreesIfRead : Result (List Event) Refusal → Type 0
-AgreesIfRead (Ok events) = AgreesThroughout (before_refusal (run_of default_settings events))
+AgreesIfRead (Ok events) = AgreesInRun default_settings events
 AgreesIfRead (Err refused) = ⊤
 
 -- so it is of the run that an input is replayed as
