@@ -44,28 +44,36 @@ impl PacketKind {
 #[derive(Drop)]
 pub(crate) struct Frame {
     mark: u64,
+    kind: PacketKind,
     octets: Vec<u8>,
 }
 
 impl Model for Frame {
     ghost use Rattle.ppp_duet.specs.Duet.{Marked};
-    ghost use Rattle.ppp_world.specs.Frame.{frame_with, HoldsPacket};
+    ghost use Rattle.std.specs.Prelude.{◌≡◌};
+    ghost use Rattle.ppp_world.specs.Frame.{frame_with, kind_of, packet_held, HoldsPacket};
 
     ghost Value = { Marked };
 
     ghost view = { λ f. frame_with f.mark f.octets.items };
 
-    ghost invariant = { λ f. HoldsPacket f.octets.items };
+    ghost invariant = { λ f. HoldsPacket f.octets.items × (f.kind ≡ kind_of (packet_held f.octets.items)) };
 }
 
 impl Frame {
-    /// A frame with that mark and these octets.
-    pub(crate) fn new(alloc: Global, mark: u64, octets: &[u8]) -> Result<Frame, Memory>
-        requires { HoldsPacket octets.now }
+    /// A frame with that mark and these octets, which are a packet of that kind.
+    pub(crate) fn new(
+        alloc: Global,
+        mark: u64,
+        kind: PacketKind,
+        octets: &[u8],
+    ) -> Result<Frame, Memory>
+        requires held { HoldsPacket octets.now }
+        requires kind { kind ≡ kind_of (packet_held octets.now) }
         ensures { IfOk result (λ f. f ≡ frame_with mark octets.now) }
     {
         match Vec::from_slice(alloc, octets) {
-            Ok(octets) => Ok(Frame { mark, octets }),
+            Ok(octets) => Ok(Frame { mark, kind, octets }),
             Err(_) => Err(Memory),
         }
     }
@@ -81,7 +89,7 @@ impl Frame {
     pub(crate) fn kind(&self) -> PacketKind
         ensures { result ≡ kind_of self.now.packet }
     {
-        PacketKind::of(self.octets.as_slice())
+        self.kind
     }
 
     /// Its octets.

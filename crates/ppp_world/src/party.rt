@@ -185,7 +185,7 @@ fn post_packet(
 {
     let kind = PacketKind::of(octets);
     ledger.note(kind, octets)?;
-    let frame = Frame::new(alloc, mark_for(kind, ledger.sent(), mark), octets)?;
+    let frame = Frame::new(alloc, mark_for(kind, ledger.sent(), mark), kind, octets)?;
     queue.push(frame)
 }
 
