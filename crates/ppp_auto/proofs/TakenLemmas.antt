@@ -6,7 +6,8 @@ use Rattle.ppp_packet.specs.ConfigOption.{ConfigOption}
 use Rattle.ppp_packet.specs.declared.code.Code.TheVariants.{EchoRequest, EchoReply}
 use Rattle.ppp_packet.specs.Code.{code_number}
 use Rattle.ppp_auto.specs.declared.auto.TheConstants.{LEAST_CAP}
-use Rattle.ppp_auto.specs.declared.taken.TheConstants.{HEADER, MAGIC}
+use Rattle.ppp_auto.specs.declared.taken.TheConstants.{MAGIC}
+use Rattle.ppp_packet.specs.declared.packet_ref.TheConstants.{PACKET_HEADER}
 use Rattle.ppp_auto.specs.declared.auto_event.AutoEvent.{AutoEvent}
 use Rattle.ppp_auto.specs.declared.auto_event.AutoEvent.TheVariants as event
 use Rattle.ppp_auto.specs.declared.auto_state.AutoState.{AutoState}
@@ -158,8 +159,8 @@ command_fit sendable a e id s = record { adapted = s; short = λ h. absurd (not_
 
 -- an Echo-Request is answered
 pub echoed : (t : Table) (a : Auto) (code id magic : ℕ) (octets given : List ℕ) (answer : Packet) → code ≡ code_number EchoRequest → LEAST_CAP ≤ a.cap → magic ≡ t.magic a.own →
-    given ≡ take (a.cap - HEADER - MAGIC) (drop MAGIC octets) → answer ≡ Other (code_number EchoReply) id (four_octets magic ++ given) → Some answer ≡ echo_answer t a code id octets
+    given ≡ take (a.cap - PACKET_HEADER - MAGIC) (drop MAGIC octets) → answer ≡ Other (code_number EchoReply) id (four_octets magic ++ given) → Some answer ≡ echo_answer t a code id octets
 echoed t a code id magic octets given answer c h m d e =
-    let room : a.cap - HEADER ≡ 4 + (a.cap - HEADER - MAGIC) = omega arith in
-    let all = take-append-add (four_octets (t.magic a.own)) (drop MAGIC octets) (a.cap - HEADER - MAGIC) in
+    let room : a.cap - PACKET_HEADER ≡ 4 + (a.cap - PACKET_HEADER - MAGIC) = omega arith in
+    let all = take-append-add (four_octets (t.magic a.own)) (drop MAGIC octets) (a.cap - PACKET_HEADER - MAGIC) in
     rw (c, room, e, m, d) (ap (λ (xs : List ℕ). Some (Other (code_number EchoReply) id xs)) (sym all))

@@ -21,7 +21,7 @@ use Rattle.ppp_auto.specs.declared.input.Input.TheVariants as on
 use Rattle.ppp_auto.specs.declared.action.Action.{Action}
 use Rattle.ppp_auto.specs.declared.action.Action.TheVariants.{ThisLayerUp, ThisLayerDown, ThisLayerStarted, ThisLayerFinished, InitializeRestartCount, ZeroRestartCount, SendConfigureRequest, RepeatConfigureRequest, SendConfigureAck, SendConfigureNak, SendTerminateRequest, SendTerminateAck, SendCodeReject, SendEchoReply}
 use Rattle.ppp_auto.specs.declared.reply.TheConstants.{MAX_FAILURE}
-use Rattle.ppp_auto.specs.declared.taken.TheConstants.{HEADER}
+use Rattle.ppp_packet.specs.declared.packet_ref.TheConstants.{PACKET_HEADER}
 use Rattle.ppp_auto.specs.Auto.{Auto, auto_seen, begins_anew, last_id}
 use Rattle.ppp_auto.specs.EventTable.{Cell, acks, asks, cell_of, cell_seen, draws, refuses, restart_after}
 use Rattle.ppp_auto.specs.OptionTable.{Table}
@@ -82,7 +82,7 @@ effect_of old new taken SendConfigureAck = answering taken.answer
 effect_of old new taken SendConfigureNak = answering taken.answer
 effect_of old new taken SendTerminateRequest = Sends (Other (code_number TerminateRequest) old.second []) ∷ []
 effect_of old new taken SendTerminateAck = Sends (Other (code_number TerminateAck) taken.id []) ∷ []
-effect_of old new taken SendCodeReject = Sends (Other (code_number CodeReject) old.second (take (old.cap - HEADER) taken.whole)) ∷ []
+effect_of old new taken SendCodeReject = Sends (Other (code_number CodeReject) old.second (take (old.cap - PACKET_HEADER) taken.whole)) ∷ []
 effect_of old new taken SendEchoReply = answering taken.answer
 
 abbrev pub effects : Auto → Auto → Taken → List Action → List Effect

@@ -16,7 +16,8 @@ use Rattle.ppp_auto.specs.declared.auto.Auto.{Auto as KeptAuto}
 use Rattle.ppp_auto.specs.declared.judged.Judged.{Judged}
 use Rattle.ppp_auto.specs.declared.reply.Reply.{Reply as KeptReply}
 use Rattle.ppp_auto.specs.declared.taken.Taken.{Taken as Kept}
-use Rattle.ppp_auto.specs.declared.taken.TheConstants.{HEADER, MAGIC}
+use Rattle.ppp_auto.specs.declared.taken.TheConstants.{MAGIC}
+use Rattle.ppp_packet.specs.declared.packet_ref.TheConstants.{PACKET_HEADER}
 use Rattle.ppp_auto.specs.Auto.{Auto, auto_seen, is_idle, is_stopped, last_id}
 use Rattle.ppp_auto.specs.Judged.{AreSettled}
 use Rattle.ppp_auto.specs.OptionTable.{Table}
@@ -96,7 +97,7 @@ four_octets n = (n / 2 ^ 24 % 256) ∷ (n / 2 ^ 16 % 256) ∷ (n / 2 ^ 8 % 256) 
 abbrev pub echo_answer : Table → Auto → ℕ → ℕ → List ℕ → Option Packet
 echo_answer t a code id octets =
     if code == code_number EchoRequest
-    then Some (Other (code_number EchoReply) id (take (a.cap - HEADER) (four_octets (t.magic a.own) ++ drop MAGIC octets)))
+    then Some (Other (code_number EchoReply) id (take (a.cap - PACKET_HEADER) (four_octets (t.magic a.own) ++ drop MAGIC octets)))
     else None
 
 abbrev pub unknown_taken : Auto → ℕ → ℕ → List ℕ → Taken

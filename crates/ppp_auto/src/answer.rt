@@ -8,7 +8,7 @@ ghost use Rattle.ppp_auto.specs.Packet.{Ack, Nak, Reject, Other, octets_of};
 ghost use Rattle.ppp_auto.specs.Automaton.{is_nak};
 ghost use Rattle.ppp_auto.specs.Outbox.{Send};
 ghost use Rattle.ppp_auto.specs.Taken.{four_octets};
-ghost use Rattle.ppp_auto.specs.declared.outbox.TheConstants.{MOST_REST};
+ghost use Rattle.ppp_auto.specs.declared.outbox.TheConstants.{MOST_REST, SLOTS};
 ghost use Rattle.ppp_auto.specs.declared.taken.TheConstants.{MAGIC};
 
 use crate::outbox::{MOST_REST, Outbox};
@@ -105,7 +105,7 @@ impl<'a> Answer<'a> {
 
     /// Puts the packet at the end of an outbox.
     pub(crate) fn send(&self, out: &mut Outbox)
-        requires { length out.old < 4 }
+        requires { length out.old < SLOTS }
         ensures { out.new ≡ out.old ++ Send (octets_of self.now) ∷ [] }
     {
         match self.magic {

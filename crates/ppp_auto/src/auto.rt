@@ -9,6 +9,7 @@ ghost use Rattle.ppp_auto.specs.Automaton.{CanKeep, counts_anew, GoesOn, is_nak,
 ghost use Rattle.ppp_auto.specs.EventTable.{acks, cell_seen};
 ghost use Rattle.ppp_auto.specs.Taken.{IsFit, taken_seen};
 ghost use Rattle.ppp_auto.specs.declared.reply.TheConstants.{MAX_FAILURE};
+ghost use Rattle.ppp_packet.specs.declared.opt_list.TheConstants.{MOST_LIST};
 
 use crate::answer::Answer;
 use crate::auto_state::AutoState;
@@ -191,7 +192,7 @@ pub(crate) fn first_list<T: OptionTable>(table: &T, word: u64) -> OptList
 
 /// Keeps the peer's list where it is acknowledged.
 fn keep(peer: &mut OptList, acks: bool, theirs: &Option<Options<'_>>)
-    requires { acks ≡ true → length (written (unwrap_or theirs.now [])) ≤ 128 }
+    requires { acks ≡ true → length (written (unwrap_or theirs.now [])) ≤ MOST_LIST }
     ensures { peer.new ≡ (if acks then unwrap_or theirs.now [] else peer.old) }
 {
     if !acks {

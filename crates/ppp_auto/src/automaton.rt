@@ -11,6 +11,7 @@ ghost use Rattle.ppp_auto.specs.Outbox.{entry_of};
 ghost use Rattle.ppp_auto.specs.Packet.{packet_with, Request};
 ghost use Rattle.ppp_auto.specs.Taken.{input_of, IsFit, judging, taken_as, taken_seen};
 ghost use Rattle.ppp_auto.specs.declared.auto.TheConstants.{LEAST_CAP, MOST_CAP};
+ghost use Rattle.ppp_auto.specs.declared.outbox.TheConstants.{SLOTS};
 
 use crate::action::Action;
 use crate::answer::Answer;
@@ -24,8 +25,8 @@ use crate::layer_signal::LayerSignal;
 use crate::option_table::OptionTable;
 use crate::outbox::Outbox;
 use crate::reply::is_spent;
-use crate::taken::{HEADER, Taken, cut, input_of, judge_request, packet_taken, request_taken};
-use ppp_packet::{Code, OptList, PacketRef, read_options, read_packet};
+use crate::taken::{Taken, cut, input_of, judge_request, packet_taken, request_taken};
+use ppp_packet::{Code, OptList, PACKET_HEADER, PacketRef, read_options, read_packet};
 use std::marker::Model;
 
 /// One end of the negotiation of a protocol, over a table of its options. It is seen as the table and the definition's
@@ -85,7 +86,7 @@ impl<T: OptionTable> Automaton<T> {
             return;
         }
         if let Some(packet) = read_packet(bytes) {
-            let whole = &bytes[..HEADER + packet.rest.len()];
+            let whole = &bytes[..PACKET_HEADER + packet.rest.len()];
             self.take(packet, whole, word, out);
         }
     }
@@ -95,8 +96,10 @@ impl<T: OptionTable> Automaton<T> {
         requires empty { out.old ≡ [] }
         requires whole { whole.now ≡ packet_octets packet.code packet.id packet.rest.now }
         ensures table { self.new.0 ≡ self.old.0 }
-        ensures auto { self.new.1 ≡ auto_by_packet (T.table self.old.0) self.old.1 packet.entry word }
-        ensures out { out.new ≡ entries_by_packet (T.table self.old.0) self.old.1 packet.entry word }
+        ensures auto { self.new.1
+            ≡ auto_by_packet (T.table self.old.0) self.old.1 packet.entry word }
+        ensures out { out.new
+            ≡ entries_by_packet (T.table self.old.0) self.old.1 packet.entry word }
     {
         if packet.code == Code::ConfigureRequest.number() {
             self.take_request(packet.id, packet.rest, word, out);
@@ -109,8 +112,10 @@ impl<T: OptionTable> Automaton<T> {
     fn take_request(&mut self, id: u8, rest: &[u8], word: u64, out: &mut Outbox)
         requires { out.old ≡ [] }
         ensures table { self.new.0 ≡ self.old.0 }
-        ensures auto { self.new.1 ≡ auto_by_options (T.table self.old.0) self.old.1 id rest.now word }
-        ensures out { out.new ≡ entries_by_options (T.table self.old.0) self.old.1 id rest.now word }
+        ensures auto { self.new.1
+            ≡ auto_by_options (T.table self.old.0) self.old.1 id rest.now word }
+        ensures out { out.new
+            ≡ entries_by_options (T.table self.old.0) self.old.1 id rest.now word }
     {
         let Some(theirs) = read_options(rest) else {
             return;
@@ -141,8 +146,10 @@ impl<T: OptionTable> Automaton<T> {
         requires input { taken.now.input ≡ Some input }
         requires fit { IsFit (T.sendable self.old.0) (taken_seen self.old.1.own taken.now) }
         ensures table { self.new.0 ≡ self.old.0 }
-        ensures auto { self.new.1 ≡ auto_by_row (T.table self.old.0) self.old.1 input taken.now word }
-        ensures out { out.new ≡ entries_by_row (T.table self.old.0) self.old.1 input taken.now word }
+        ensures auto { self.new.1
+            ≡ auto_by_row (T.table self.old.0) self.old.1 input taken.now word }
+        ensures out { out.new
+            ≡ entries_by_row (T.table self.old.0) self.old.1 input taken.now word }
     {
         let cell = Cell::of(input, self.auto.state);
         self.auto.go_on(&self.table, input, &cell, taken, word);
@@ -201,13 +208,6 @@ impl<T: OptionTable> Automaton<T> {
             _ => None,
         }
     }
-
-    /// The table.
-    pub fn table(&self) -> &T
-        ensures { result.now ≡ self.now.0 }
-    {
-        &self.table
-    }
 }
 
 /// Whether no packet is taken in.
@@ -230,7 +230,7 @@ fn tell_rejected(rejects: Option<u16>, out: &mut Outbox)
 /// Puts the entries of a cell's actions into an outbox.
 fn emit_all(out: &mut Outbox, actions: &[Action], auto: &Auto, taken: &Taken<'_, '_>)
     requires empty { out.old ≡ [] }
-    requires few { length actions.now ≤ 4 }
+    requires few { length actions.now ≤ SLOTS }
     requires cap { IsCap auto.now.cap }
     ensures { out.new ≡ all_entries_by auto.now taken.now actions.now }
 {
@@ -241,7 +241,7 @@ fn emit_all(out: &mut Outbox, actions: &[Action], auto: &Auto, taken: &Taken<'_,
 
 /// Puts the entry of an action into an outbox, if it has one.
 fn emit(out: &mut Outbox, action: Action, auto: &Auto, taken: &Taken<'_, '_>)
-    requires few { length out.old < 4 }
+    requires few { length out.old < SLOTS }
     requires cap { IsCap auto.now.cap }
     ensures entries { out.new ≡ out.old ++ entries_by auto.now taken.now action }
     ensures few { length out.new ≤ length out.old + 1 }
@@ -261,7 +261,7 @@ fn emit(out: &mut Outbox, action: Action, auto: &Auto, taken: &Taken<'_, '_>)
         Action::SendTerminateRequest => out.send(Code::TerminateRequest, auto.second, &[]),
         Action::SendTerminateAck => out.send(Code::TerminateAck, taken.id, &[]),
         Action::SendCodeReject => {
-            let data = cut(taken.whole, usize::from(auto.cap) - HEADER);
+            let data = cut(taken.whole, usize::from(auto.cap) - PACKET_HEADER);
             out.send(Code::CodeReject, auto.second, data);
         }
     }
@@ -269,7 +269,7 @@ fn emit(out: &mut Outbox, action: Action, auto: &Auto, taken: &Taken<'_, '_>)
 
 /// Puts an answer into an outbox, if there is one.
 fn send_answer(out: &mut Outbox, answer: &Option<Answer<'_>>)
-    requires { length out.old < 4 }
+    requires { length out.old < SLOTS }
     ensures entries { out.new ≡ out.old ++ map entry_of (answering answer.now) }
     ensures few { length out.new ≤ length out.old + 1 }
 {

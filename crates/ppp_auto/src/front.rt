@@ -1,16 +1,14 @@
 //! The octets of options, as many from the front as fit a packet.
 
 ghost use Rattle.std.specs.Prelude.{◌≡◌, ◌+◌, ◌≤◌, ◌==◌, [], ◌++◌, length};
+ghost use Rattle.ppp_packet.specs.declared.options.TheConstants.{MOST_BODY, OPTION_HEADER};
 ghost use Rattle.ppp_packet.specs.Options.{option_octets, option_with};
 ghost use Rattle.ppp_auto.specs.Front.{IsFront, PutsBehind};
-ghost use Rattle.ppp_auto.specs.declared.front.TheConstants.{OPTION_HEADER};
 ghost use Rattle.ppp_auto.specs.declared.outbox.TheConstants.{MOST_REST};
 
 use crate::outbox::MOST_REST;
 use arrayvec::ArrayVec;
-
-/// The octets of an option's Type and Length.
-const OPTION_HEADER: usize = 2;
+use ppp_packet::OPTION_HEADER;
 
 /// The octets of options that were put in, as many from the front as fit a packet.
 #[derive(Drop)]
@@ -41,7 +39,7 @@ impl Front {
 
     /// Puts an option at the end.
     pub(crate) fn put(&mut self, kind: u8, body: &[u8])
-        requires { length body.now ≤ 253 }
+        requires { length body.now ≤ MOST_BODY }
         ensures { PutsBehind self.old self.new (option_with kind body.now) }
     {
         if self.full {
@@ -72,7 +70,7 @@ impl Front {
 
 /// Puts the octets of an option behind others.
 fn put_option(octets: &mut ArrayVec<u8, MOST_REST>, kind: u8, body: &[u8])
-    requires size { length body.now ≤ 253 }
+    requires size { length body.now ≤ MOST_BODY }
     requires room { length octets.old.items + OPTION_HEADER + length body.now ≤ MOST_REST }
     ensures { octets.new.items ≡ octets.old.items ++ option_octets (option_with kind body.now) }
 {

@@ -3,6 +3,7 @@
 ghost use Rattle.std.specs.Prelude.{◌≡◌, ◌<◌, ◌≤◌, ◌||◌, ◌&&◌, [], false, true, length, slice_index_or, slice_set};
 ghost use Rattle.std.specs.Option.{option_to_list};
 ghost use Rattle.ppp_packet.specs.ConfigOption.{ConfigOption};
+ghost use Rattle.ppp_packet.specs.declared.options.TheConstants.{MOST_BODY};
 ghost use Rattle.ppp_packet.specs.OptRef.{option_seen};
 ghost use Rattle.ppp_auto.specs.Judged.{AreJudgedBy, AreSettled, CorrectsOne, IsJudged, judging_by, JudgesOne, RefusesOne};
 ghost use Rattle.ppp_auto.specs.Reply.{is_refused, rejected, suggested, unacceptable};
@@ -74,7 +75,7 @@ impl Judged {
 
     /// Takes an option and what the table thinks of it. `twice` says that its kind stood before it.
     fn judge_one(&mut self, option: OptRef<'_>, verdict: &Verdict, twice: bool)
-        requires { length option.body.now ≤ 253 }
+        requires { length option.body.now ≤ MOST_BODY }
         ensures { JudgesOne self.old self.new twice (option_seen option.entry) verdict.now }
     {
         if is_rejected(twice, verdict, &option) {
@@ -86,7 +87,7 @@ impl Judged {
 
     /// Takes an option that is rejected.
     fn refuse(&mut self, option: OptRef<'_>)
-        requires { length option.body.now ≤ 253 }
+        requires { length option.body.now ≤ MOST_BODY }
         ensures { RefusesOne self.old self.new (option_seen option.entry) }
     {
         if self.refused {
@@ -100,7 +101,7 @@ impl Judged {
 
     /// Takes an option in the place of which another is suggested.
     fn correct(&mut self, option: OptRef<'_>, better: &Opt)
-        requires { length option.body.now ≤ 253 }
+        requires { length option.body.now ≤ MOST_BODY }
         ensures { CorrectsOne self.old self.new (option_seen option.entry) better.now }
     {
         self.bad = true;

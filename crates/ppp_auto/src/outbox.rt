@@ -3,15 +3,14 @@
 ghost use Rattle.std.specs.Prelude.{◌≡◌, ◌+◌, ◌<◌, ◌≤◌, [], ◌∷◌, ◌++◌, length, vec_len, vec_capacity, map, take, drop, ◌-◌, IfOk, Some, slice_get};
 ghost use Rattle.ppp_auto.specs.Packet.{coded_octets};
 ghost use Rattle.ppp_auto.specs.Outbox.{entry_seen, slot_seen, AreWithin, IsShort};
-ghost use Rattle.ppp_auto.specs.declared.outbox.TheConstants.{MOST_REST};
-ghost use Rattle.ppp_auto.specs.declared.taken.TheConstants.{HEADER};
+ghost use Rattle.ppp_auto.specs.declared.outbox.TheConstants.{MOST_REST, SLOTS};
+ghost use Rattle.ppp_packet.specs.declared.packet_ref.TheConstants.{PACKET_HEADER};
 
 use crate::layer_signal::LayerSignal;
-use crate::taken::HEADER;
 use arrayvec::ArrayVec;
 use byteorder::{BigEndian, ByteOrder};
 use ppp_memory::Memory;
-use ppp_packet::Code;
+use ppp_packet::{Code, PACKET_HEADER};
 use std::alloc::Global;
 use std::marker::Model;
 
@@ -19,7 +18,7 @@ use std::marker::Model;
 pub(crate) const MOST_OCTETS: usize = 1500;
 
 /// The most octets that a packet in an outbox has behind its header.
-pub(crate) const MOST_REST: usize = MOST_OCTETS - HEADER;
+pub(crate) const MOST_REST: usize = MOST_OCTETS - PACKET_HEADER;
 
 /// The octets that an outbox holds: four packets.
 pub(crate) const CAPACITY: usize = SLOTS * MOST_OCTETS;
@@ -88,7 +87,7 @@ impl Outbox {
     /// How many entries there are.
     pub fn count(&self) -> usize
         ensures count { result ≡ length self.now }
-        ensures few { length self.now ≤ 4 }
+        ensures few { length self.now ≤ SLOTS }
     {
         self.slots.len()
     }
@@ -112,7 +111,7 @@ impl Outbox {
 
     /// Puts a signal at the end.
     pub(crate) fn tell(&mut self, signal: LayerSignal)
-        requires { length self.old < 4 }
+        requires { length self.old < SLOTS }
         ensures { self.new ≡ self.old ++ Signal signal ∷ [] }
     {
         self.slots.push(Slot::Told(signal));
@@ -120,7 +119,7 @@ impl Outbox {
 
     /// Puts a packet at the end.
     pub(crate) fn send(&mut self, code: Code, id: u8, rest: &[u8])
-        requires few { length self.old < 4 }
+        requires few { length self.old < SLOTS }
         requires size { length rest.now ≤ MOST_REST }
         ensures { self.new ≡ self.old ++ Send (coded_octets code id rest.now) ∷ [] }
     {
@@ -133,13 +132,13 @@ impl Outbox {
 /// Puts the octets of a packet behind others, for which room was taken.
 fn put_packet(octets: &mut Vec<u8>, code: Code, id: u8, rest: &[u8])
     requires size { length rest.now ≤ MOST_REST }
-    requires room { vec_len octets.old + (HEADER + length rest.now) ≤ vec_capacity octets.old }
+    requires room { vec_len octets.old + (PACKET_HEADER + length rest.now) ≤ vec_capacity octets.old }
     ensures octets { octets.new.items ≡ octets.old.items ++ coded_octets code id rest.now }
-    ensures size { vec_len octets.new ≡ vec_len octets.old + (HEADER + length rest.now) }
+    ensures size { vec_len octets.new ≡ vec_len octets.old + (PACKET_HEADER + length rest.now) }
     ensures capacity { vec_capacity octets.old ≤ vec_capacity octets.new }
 {
     let mut header = [code.number(), id, 0, 0];
-    BigEndian::write_u16(&mut header[2..], (HEADER + rest.len()) as u16);
+    BigEndian::write_u16(&mut header[2..], (PACKET_HEADER + rest.len()) as u16);
     octets.extend_from_slice(&header).unwrap();
     octets.extend_from_slice(rest).unwrap();
 }

@@ -23,10 +23,7 @@ use crate::judged::Judged;
 use crate::option_table::OptionTable;
 use crate::reply::reply_to;
 use byteorder::{BigEndian, ByteOrder};
-use ppp_packet::{Code, OptList, OptRef, Options, PacketRef, read_options};
-
-/// The octets of a packet's Code, Identifier and Length.
-pub(crate) const HEADER: usize = 4;
+use ppp_packet::{Code, OptList, OptRef, Options, PACKET_HEADER, PacketRef, read_options};
 
 /// The octets of a Magic-Number.
 pub(crate) const MAGIC: usize = 4;
@@ -383,7 +380,7 @@ fn echo_answer<'a, T: OptionTable>(
         return None;
     }
     let (_, behind) = packet.rest.split_at(MAGIC);
-    let kept = cut(behind, usize::from(auto.cap) - HEADER - MAGIC);
+    let kept = cut(behind, usize::from(auto.cap) - PACKET_HEADER - MAGIC);
     Some(Answer::echo(packet.id, table.magic(&auto.own), kept))
 }
 

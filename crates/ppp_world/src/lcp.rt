@@ -4,6 +4,7 @@
 ghost use Rattle.std.specs.Prelude.{◌≡◌, ◌+◌, ◌≤◌, true, [], ◌∷◌, ◌++◌, length, refl, MatchOption, Some, None};
 ghost use Rattle.ppp_packet.specs.Options.{written, option_with, find_kind};
 ghost use Rattle.ppp_packet.specs.Packet.{two_octets};
+ghost use Rattle.ppp_packet.specs.declared.opt_list.TheConstants.{MOST_LIST};
 ghost use Rattle.ppp_packet.specs.OptRef.{option_seen};
 ghost use Rattle.ppp_packet.specs.Proto.{proto_number};
 ghost use Rattle.ppp_packet.specs.declared.proto.Proto.TheVariants.{Lcp};
@@ -137,7 +138,7 @@ impl OptionTable for LcpTable {
 /// The options of a list, for reading.
 fn options_of(list: &OptList) -> Options<'_>
     ensures value { result ≡ list.now }
-    ensures size { length (written result) ≤ 128 }
+    ensures size { length (written result) ≤ MOST_LIST }
 {
     prove!(list.octets().len() <= 128);
     list.options()
@@ -145,7 +146,7 @@ fn options_of(list: &OptList) -> Options<'_>
 
 /// Puts an option at the end of a list that has room for it.
 fn put(list: &mut OptList, kind: u8, body: &[u8])
-    requires room { length (written list.old) + (2 + length body.now) ≤ 128 }
+    requires room { length (written list.old) + (2 + length body.now) ≤ MOST_LIST }
     ensures { list.new ≡ list.old ++ option_with kind body.now ∷ [] }
 {
     list.push(kind, body).unwrap();
@@ -270,7 +271,7 @@ fn judge_magic(own: u32, body: &[u8], word: u64) -> Verdict
 
 /// Puts what a Nak makes of an own option at the end of a list that has room for the option.
 fn put_after_nak(list: &mut OptList, option: OptRef<'_>, nak: &Options<'_>, word: u64)
-    requires room { length (written list.old) + (2 + length option.body.now) ≤ 128 }
+    requires room { length (written list.old) + (2 + length option.body.now) ≤ MOST_LIST }
     ensures { list.new ≡ list.old
         ++ spec.option_after nak.now word (option_seen option.entry) ∷ [] }
 {
@@ -307,7 +308,7 @@ pub(crate) fn is_sent_mru(body: &[u8]) -> bool
 
 /// Puts what a Nak makes of an own Magic-Number at the end of a list that has room for it.
 fn put_magic_after(list: &mut OptList, last: &[u8], nak: &Options<'_>, word: u64)
-    requires room { length (written list.old) + (2 + length last.now) ≤ 128 }
+    requires room { length (written list.old) + (2 + length last.now) ≤ MOST_LIST }
     ensures { list.new ≡ list.old
         ++ option_with MAGIC (spec.magic_after last.now (find_kind MAGIC nak.now) word) ∷ [] }
 {
@@ -322,7 +323,7 @@ fn put_magic_after(list: &mut OptList, last: &[u8], nak: &Options<'_>, word: u64
 /// Puts the Magic-Number that a Nak suggests in place of the own, or a drawn one, at the end of a list that has room
 /// for it.
 fn put_new_magic(list: &mut OptList, own: u32, body: &[u8], word: u64)
-    requires room { length (written list.old) + 6 ≤ 128 }
+    requires room { length (written list.old) + 6 ≤ MOST_LIST }
     requires size { length body.now ≡ MAGIC_OCTETS }
     ensures { list.new ≡ list.old ++ option_with MAGIC (spec.magic_taken own body.now word) ∷ [] }
 {

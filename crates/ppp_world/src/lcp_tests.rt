@@ -18,7 +18,8 @@ fn list_after<T: OptionTable>(table: &T, nak: &Options<'_>, word: u64) -> OptLis
 
 /// Whether an option is good against a word. One that is good against the word 0 is.
 fn stays_good<T: OptionTable>(table: &T, own: &OptList, option: OptRef<'_>, word: u64) -> bool
-    ensures { (T.table table.now).judge own.now (option_seen option.entry) 0 ≡ Good → IsTrue result }
+    ensures { (T.table table.now).judge own.now (option_seen option.entry) 0
+        ≡ Good → IsTrue result }
 {
     matches!(table.judge(own, option, word), Verdict::Good)
 }

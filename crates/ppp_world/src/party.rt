@@ -59,7 +59,8 @@ impl Party {
         requires room { length queue.old ≤ ROOM }
         ensures end { OnOk result (self.new ≡ party_commanded self.old event word) }
         ensures settings { self.new.settings ≡ self.old.settings }
-        ensures sent { OnOk result (queue.new ≡ queued queue.old (sent_commanded self.old event word)) }
+        ensures sent { OnOk result (queue.new
+            ≡ queued queue.old (sent_commanded self.old event word)) }
         ensures room { length queue.new ≤ ROOM }
     {
         self.automaton.event(event, word, out);
@@ -79,7 +80,8 @@ impl Party {
         requires room { length queue.old ≤ ROOM }
         ensures end { OnOk result (self.new ≡ party_taking self.old frame.now word) }
         ensures settings { self.new.settings ≡ self.old.settings }
-        ensures sent { OnOk result (queue.new ≡ queued queue.old (sent_taking self.old frame.now word)) }
+        ensures sent { OnOk result (queue.new
+            ≡ queued queue.old (sent_taking self.old frame.now word)) }
         ensures room { length queue.new ≤ ROOM }
     {
         self.ledger.hear(self.automaton.state(), frame);
