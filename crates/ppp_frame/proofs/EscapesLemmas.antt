@@ -1,0 +1,83 @@
+-- Octets as they are spelled and read.
+use Rattle.std.proofs.Common.{◌≡◌, ◌==◌, ◌||◌, if◌then◌else◌, ℕ, ◌+◌, ◌*◌, ◌/◌, ◌%◌, ◌<◌, ◌≤◌, Bool, true, false, List, [], ◌∷◌, ◌++◌, length, get_or, take, set, refl, ap, sym, ◌∙◌, arith, bit_xor, append_assoc, length-set}
+use Rattle.std.proofs.lemmas.List.{take_more_set, take-set, take_more, flat_map_more}
+use Rattle.ppp_frame.specs.Escapes.{must_escape, spelled, stuffed}
+use Rattle.ppp_frame.specs.Spelling.{pair_of}
+use Rattle.ppp_frame.specs.Fcs.{fcs_of, fcs_octets, checked}
+use Rattle.std.proofs.lemmas.List.Concat.{flat_map-append}
+
+-- two octets are written, of which the second may not count
+pub two_writes : (wide : Bool) (room : List ℕ) (end first second : ℕ) → end + 1 < length room → take (end + (if wide then 2 else 1)) (set (set room end first) (end + 1) second) ≡ take end room ++ (if wide then first ∷ second ∷ [] else first ∷ [])
+two_writes true room end first second within =
+    ap (λ n. take n (set (set room end first) (end + 1) second)) (omega arith)
+    ∙ take_more_set (set room end first) (end + 1) second (omega (arith, length-set room end first))
+    ∙ ap (λ xs. xs ++ second ∷ []) (take_more_set room end first (omega arith))
+    ∙ append_assoc (take end room) (first ∷ []) (second ∷ [])
+two_writes false room end first second within =
+    take-set (set room end first) (end + 1) second ∙ take_more_set room end first (omega arith)
+
+or_false : (a b : Bool) → a || b ≡ false → (a ≡ false) × (b ≡ false)
+or_false false false e = (refl, refl)
+or_false false true e = absurd (cc)
+or_false true b e = absurd (cc)
+
+-- what is not escaped is neither an escape nor a flag
+pub plain_octet : (map x : ℕ) → must_escape map x ≡ false → ((x == 0x7d) ≡ false) × ((x == 0x7e) ≡ false)
+unfolding must_escape
+plain_octet map x e = or_false _ _ (or_false _ _ e).0
+
+-- an entry of the table spells its octet
+pub pair_spells : (map x pair : ℕ) → x < 256 → pair ≡ pair_of map x → spelled map x ≡ (if pair % 256 == 0x7d then (pair % 256) ∷ (pair / 256) ∷ [] else (pair % 256) ∷ [])
+pair_spells map x pair fits is = go (must_escape map x) refl
+  where
+    go : (b : Bool) → must_escape map x ≡ b → spelled map x ≡ (if pair % 256 == 0x7d then (pair % 256) ∷ (pair / 256) ∷ [] else (pair % 256) ∷ [])
+    go true e =
+        let is' : pair ≡ 0x7d + bit_xor x 0x20 * 256 = rw e at is in
+        let low : pair % 256 ≡ 0x7d = omega arith in
+        let high : pair / 256 ≡ bit_xor x 0x20 = omega arith in
+        rw (e, low, high)
+    go false e =
+        let is' : pair ≡ x = rw e at is in
+        let low : pair % 256 ≡ x = omega arith in
+        rw (e, low, (plain_octet map x e).0)
+
+pub stuffed_more : (map : ℕ) (xs : List ℕ) (i d : ℕ) → i < length xs → stuffed map (take (i + 1) xs) ≡ stuffed map (take i xs) ++ spelled map (get_or xs i d)
+stuffed_more map xs i d within =
+    ap (stuffed map) (take_more xs i d within) ∙ sym (flat_map_more (spelled map) [] (take i xs) (get_or xs i d))
+
+length_by : (wide : Bool) (a b : ℕ) → length (if wide then a ∷ b ∷ [] else a ∷ []) ≡ (if wide then 2 else 1)
+length_by true a b = refl
+length_by false a b = refl
+
+pub length_spelled : (map x pair : ℕ) → x < 256 → pair ≡ pair_of map x → length (spelled map x) ≡ (if pair % 256 == 0x7d then 2 else 1)
+length_spelled map x pair fits is = ap length (pair_spells map x pair fits is) ∙ length_by _ _ _
+
+pub width_by : (pair : ℕ) → (if pair % 256 == 0x7d then 2 else 1) ≤ 2
+width_by pair = go (pair % 256 == 0x7d)
+  where
+    go : (wide : Bool) → (if wide then 2 else 1) ≤ 2
+    go true = omega arith
+    go false = omega arith
+
+-- a frame in a buffer, part by part
+pub frame_written : (map check : ℕ) (r₀ r₁ r₂ r₃ header info : List ℕ) (e₁ e₂ e₃ : ℕ) → 0 < length r₀ → e₃ < length r₃ → check ≡ fcs_of (header ++ info) → take e₁ r₁ ≡ take 1 (set r₀ 0 0x7e) ++ stuffed map header → take e₂ r₂ ≡ take e₁ r₁ ++ stuffed map info → take e₃ r₃ ≡ take e₂ r₂ ++ stuffed map (check % 256 ∷ check / 256 ∷ []) → take (e₃ + 1) (set r₃ e₃ 0x7e) ≡ 0x7e ∷ stuffed map (checked (header ++ info)) ++ 0x7e ∷ []
+frame_written map check r₀ r₁ r₂ r₃ header info e₁ e₂ e₃ some within is first second third =
+    let flag : take 1 (set r₀ 0 0x7e) ≡ 0x7e ∷ [] = take_more_set r₀ 0 0x7e some in
+    let parts : stuffed map (checked (header ++ info)) ≡ (stuffed map header ++ stuffed map info) ++ stuffed map (fcs_octets (header ++ info)) =
+    flat_map-append (spelled map) (header ++ info) (fcs_octets (header ++ info))
+    ∙ ap (λ xs. xs ++ stuffed map (fcs_octets (header ++ info))) (flat_map-append (spelled map) header info) in
+    let last : take e₃ r₃ ≡ ((take 1 (set r₀ 0 0x7e) ++ stuffed map header) ++ stuffed map info) ++ stuffed map (fcs_octets (header ++ info)) =
+    third ∙ ap (λ xs. xs ++ stuffed map (check % 256 ∷ check / 256 ∷ [])) (second ∙ ap (λ xs. xs ++ stuffed map info) first)
+    ∙ ap (λ n. ((take 1 (set r₀ 0 0x7e) ++ stuffed map header) ++ stuffed map info) ++ stuffed map (n % 256 ∷ n / 256 ∷ [])) is in
+    let all : take e₃ r₃ ≡ 0x7e ∷ stuffed map (checked (header ++ info)) =
+    last ∙ ap (λ xs. ((xs ++ stuffed map header) ++ stuffed map info) ++ stuffed map (fcs_octets (header ++ info))) flag
+    ∙ ap (λ xs. 0x7e ∷ xs) (sym parts) in
+    take_more_set r₃ e₃ 0x7e within ∙ ap (λ xs. xs ++ 0x7e ∷ []) all
+
+-- an octet more is written as it is spelled
+pub write_more : (map x pair wide end : ℕ) (room front done : List ℕ) → end + 1 < length room → x < 256 → pair ≡ pair_of map x → wide ≡ (if pair % 256 == 0x7d then 2 else 1) → take end room ≡ front ++ done → take (end + wide) (set (set room end (pair % 256)) (end + 1) (pair / 256)) ≡ front ++ (done ++ spelled map x)
+write_more map x pair wide end room front done within fits is width_is before =
+    ap (λ n. take (end + n) (set (set room end (pair % 256)) (end + 1) (pair / 256))) width_is
+    ∙ two_writes (pair % 256 == 0x7d) room end (pair % 256) (pair / 256) within
+    ∙ ap (λ ys. take end room ++ ys) (sym (pair_spells map x pair fits is))
+    ∙ ap (λ ys. ys ++ spelled map x) before ∙ append_assoc front done (spelled map x)

@@ -1,0 +1,48 @@
+//! The octets that stand for octets between two flags (RFC 1662 section 4.2).
+
+ghost use Rattle.std.specs.Prelude.{◌≡◌, ◌+◌, ◌*◌, ◌≤◌, ◌<◌, ◌++◌, ◌%◌, ◌==◌, if◌then◌else◌, length, take};
+ghost use Rattle.ppp_frame.specs.Escapes.{must_escape, stuffed};
+
+use crate::spelling::Spelling;
+
+/// The octet between two frames (RFC 1662 section 3.1).
+pub const FLAG: u8 = 0x7e;
+
+/// The octet before one that was changed (RFC 1662 section 4.2).
+pub const ESCAPE: u8 = 0x7d;
+
+/// What is added to an octet behind an escape, bit by bit.
+pub const TOGGLE: u8 = 0x20;
+
+/// A sender escapes this octet under this map: a flag, an escape, or one below 20 whose bit the map has.
+#[tactic(auto, unfolding(crate::specs::Escapes::must_escape))]
+pub(crate) fn is_escaped(map: u32, octet: u8) -> bool
+    ensures { result ≡ must_escape map octet }
+{
+    octet == ESCAPE || octet == FLAG || (octet < 0x20 && (map >> octet) % 2 == 1)
+}
+
+/// Writes `octets` into `room` from `at` on, as a sender spells them, and answers where they end.
+pub(crate) fn stuff(room: &mut [u8], at: usize, spelling: &Spelling, octets: &[u8]) -> usize
+    requires { at + 2 * length octets.now ≤ length room.old }
+    ensures end { result ≡ at + length (stuffed spelling.now.map octets.now) }
+    ensures within { result ≤ at + 2 * length octets.now }
+    ensures written { take result room.new ≡ take at room.old ++ stuffed spelling.now.map octets.now }
+{
+    let mut end = at;
+    for octet in octets {
+        let pair = spelling.pair(*octet);
+        room[end] = (pair % 256) as u8;
+        room[end + 1] = (pair / 256) as u8;
+        end += width(pair);
+    }
+    end
+}
+
+/// How many octets of a pair stand in the frame.
+#[inline(always)]
+fn width(pair: u16) -> usize
+    ensures { result ≡ (if pair % 256 == ESCAPE then 2 else 1) }
+{
+    if pair % 256 == ESCAPE as u16 { 2 } else { 1 }
+}
