@@ -1,7 +1,8 @@
 -- Octets as they are spelled and read.
-use Rattle.std.proofs.Common.{◌≡◌, ◌==◌, ◌||◌, if◌then◌else◌, ℕ, ◌+◌, ◌*◌, ◌/◌, ◌%◌, ◌<◌, ◌≤◌, Bool, true, false, List, [], ◌∷◌, ◌++◌, length, get_or, take, set, refl, ap, sym, ◌∙◌, arith, bit_xor, append_assoc, length-set}
+use Rattle.std.proofs.Common.{◌≡◌, ◌==◌, if◌then◌else◌, ℕ, ◌+◌, ◌*◌, ◌/◌, ◌%◌, ◌<◌, ◌≤◌, Bool, true, false, List, [], ◌∷◌, ◌++◌, length, get_or, take, set, refl, ap, sym, ◌∙◌, arith, bit_xor, append_assoc, length-set, length-append, append-nil}
+use Rattle.std.proofs.lemmas.Bool.{or_parts}
 use Rattle.std.proofs.lemmas.List.{take_more_set, take-set, take_more, flat_map_more}
-use Rattle.ppp_frame.specs.Escapes.{must_escape, spelled, stuffed}
+use Rattle.ppp_frame.specs.Escapes.{must_escape, spelled, stuffed, opens, read_octet, unstuffed, escaped_after}
 use Rattle.ppp_frame.specs.Spelling.{pair_of}
 use Rattle.ppp_frame.specs.Fcs.{fcs_of, fcs_octets, checked}
 use Rattle.std.proofs.lemmas.List.Concat.{flat_map-append}
@@ -16,15 +17,10 @@ two_writes true room end first second within =
 two_writes false room end first second within =
     take-set (set room end first) (end + 1) second ∙ take_more_set room end first (omega arith)
 
-or_false : (a b : Bool) → a || b ≡ false → (a ≡ false) × (b ≡ false)
-or_false false false e = (refl, refl)
-or_false false true e = absurd (cc)
-or_false true b e = absurd (cc)
-
 -- what is not escaped is neither an escape nor a flag
 pub plain_octet : (map x : ℕ) → must_escape map x ≡ false → ((x == 0x7d) ≡ false) × ((x == 0x7e) ≡ false)
 unfolding must_escape
-plain_octet map x e = or_false _ _ (or_false _ _ e).0
+plain_octet map x e = or_parts _ _ (or_parts _ _ e).0
 
 -- an entry of the table spells its octet
 pub pair_spells : (map x pair : ℕ) → x < 256 → pair ≡ pair_of map x → spelled map x ≡ (if pair % 256 == 0x7d then (pair % 256) ∷ (pair / 256) ∷ [] else (pair % 256) ∷ [])
@@ -81,3 +77,45 @@ write_more map x pair wide end room front done within fits is width_is before =
     ∙ two_writes (pair % 256 == 0x7d) room end (pair % 256) (pair / 256) within
     ∙ ap (λ ys. take end room ++ ys) (sym (pair_spells map x pair fits is))
     ∙ ap (λ ys. ys ++ spelled map x) before ∙ append_assoc front done (spelled map x)
+
+-- ---- reading
+
+-- an octet is written, and may not count
+pub one_write : (escaped : Bool) (x end : ℕ) (room : List ℕ) → end < length room → take (end + (if opens escaped x then 0 else 1)) (set room end (if escaped then bit_xor x 0x20 else x)) ≡ take end room ++ read_octet escaped x
+one_write true x end room within = take_more_set room end (bit_xor x 0x20) within
+one_write false x end room within = go (x == 0x7d) refl
+  where
+    go : (b : Bool) → (x == 0x7d) ≡ b → take (end + (if opens false x then 0 else 1)) (set room end x) ≡ take end room ++ read_octet false x
+    go true e =
+        rw e (ap (λ n. take n (set room end x)) (omega arith) ∙ take-set room end x ∙ sym (append-nil (take end room)))
+    go false e = rw e (take_more_set room end x within)
+
+pub length_read : (escaped : Bool) (x : ℕ) → length (read_octet escaped x) ≡ (if opens escaped x then 0 else 1)
+length_read true x = refl
+length_read false x = go (x == 0x7d)
+  where
+    go : (b : Bool) → length (if b then [] else x ∷ []) ≡ (if b then 0 else 1)
+    go true = refl
+    go false = refl
+
+pub unstuffed-append : (escaped : Bool) (xs ys : List ℕ) → unstuffed escaped (xs ++ ys) ≡ unstuffed escaped xs ++ unstuffed (escaped_after escaped xs) ys
+unstuffed-append escaped [] ys = refl
+unstuffed-append escaped (x ∷ xs) ys =
+    ap (λ zs. read_octet escaped x ++ zs) (unstuffed-append (opens escaped x) xs ys)
+    ∙ sym (append_assoc (read_octet escaped x) (unstuffed (opens escaped x) xs) (unstuffed (escaped_after (opens escaped x) xs) ys))
+
+pub escaped_after-append : (escaped : Bool) (xs ys : List ℕ) → escaped_after escaped (xs ++ ys) ≡ escaped_after (escaped_after escaped xs) ys
+escaped_after-append escaped [] ys = refl
+escaped_after-append escaped (x ∷ xs) ys = escaped_after-append (opens escaped x) xs ys
+
+-- no octet is read as two
+pub length-unstuffed : (escaped : Bool) (xs : List ℕ) → length (unstuffed escaped xs) ≤ length xs
+length-unstuffed escaped [] = omega arith
+length-unstuffed escaped (x ∷ xs) =
+    let one = at_most_one (opens escaped x) in
+    let more = length-unstuffed (opens escaped x) xs in
+    omega (arith, length-append (read_octet escaped x) (unstuffed (opens escaped x) xs), length_read escaped x)
+  where
+    at_most_one : (b : Bool) → (if b then 0 else 1) ≤ 1
+    at_most_one true = omega arith
+    at_most_one false = omega arith

@@ -1,5 +1,9 @@
 pub mod EscapesLemmas
 pub mod FcsLemmas
+pub mod FeedingLemmas
 pub mod HeaderLemmas
 pub mod StandardFacts
+pub mod StandingLemmas
+pub mod StreamLemmas
+pub mod VerdictLemmas
 pub mod XorLemmas

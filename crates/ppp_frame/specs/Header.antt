@@ -1,6 +1,7 @@
 -- Address, control and protocol before the information (RFC 1662 section 3.1, RFC 1661 sections 6.5 and 6.6).
-use Rattle.std.specs.Prelude.{◌≡◌, ◌⊎◌, ℕ, ◌+◌, ◌*◌, ◌/◌, ◌%◌, ◌≤◌, ◌==◌, ◌&&◌, ◌||◌, nat_lt, Bool, true, not, if◌then◌else◌, List, [], ◌∷◌, ◌++◌, length, Option, Some, None, option_and_then}
+use Rattle.std.specs.Prelude.{◌≡◌, ◌⊎◌, ℕ, ◌+◌, ◌*◌, ◌/◌, ◌%◌, ◌≤◌, ◌==◌, ◌&&◌, ◌||◌, nat_lt, Bool, true, not, if◌then◌else◌, List, [], ◌∷◌, ◌++◌, length, drop, Option, Some, None, option_and_then}
 use Rattle.ppp_frame.specs.declared.form.Form.{Form}
+use Rattle.ppp_frame.specs.declared.header.Header.{Header}
 use Rattle.ppp_frame.specs.declared.header.TheConstants.{ALL_STATIONS, UNNUMBERED, LCP}
 
 -- the octets begin with address and control
@@ -70,12 +71,20 @@ behind_address ac (a ∷ c ∷ rest) =
     if a == ALL_STATIONS && c == UNNUMBERED then Some rest else if ac then Some (a ∷ c ∷ rest) else None
 behind_address ac octets = None
 
+-- the protocol in two octets
+abbrev pub read_two : ℕ → List ℕ → Option Read
+read_two high [] = None
+read_two high (low ∷ rest) = Some (reads (high * 256 + low) rest)
+
 -- the protocol and the information
 unfoldable pub behind_protocol : Bool → List ℕ → Option Read
 behind_protocol pf [] = None
-behind_protocol pf (x ∷ []) = if pf && x % 2 == 1 then Some (reads x []) else None
-behind_protocol pf (x ∷ y ∷ rest) =
-    if pf && x % 2 == 1 then Some (reads x (y ∷ rest)) else Some (reads (x * 256 + y) rest)
+behind_protocol pf (x ∷ rest) = if pf && x % 2 == 1 then Some (reads x rest) else read_two x rest
 
 abbrev pub read_of : Bool → Bool → List ℕ → Option Read
 read_of ac pf octets = option_and_then (behind_protocol pf) (behind_address ac octets)
+
+-- the header that was found in these octets, and what is read behind it
+abbrev pub ReadsAs : List ℕ → Option Header → Option Read → Type 0
+ReadsAs octets None read = read ≡ None
+ReadsAs octets (Some h) read = (h.size ≤ length octets) × (read ≡ Some (reads h.protocol (drop h.size octets)))

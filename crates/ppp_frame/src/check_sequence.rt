@@ -8,6 +8,9 @@ use crate::fcs_table::{AFTER_1, AFTER_2, AFTER_3, AFTER_4, AFTER_5, AFTER_6, AFT
 /// The running value before the first octet.
 pub(crate) const START: u16 = 0xffff;
 
+/// The running value after octets and their own check sequence.
+pub(crate) const GOOD: u16 = 0xf0b8;
+
 /// The check sequence of `octets`: the complement of the running value after them (RFC 1662 appendix C.2). A sender
 /// writes it behind them, the low octet first. It takes no memory.
 pub fn fcs(octets: &[u8]) -> u16

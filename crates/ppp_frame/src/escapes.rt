@@ -1,7 +1,7 @@
 //! The octets that stand for octets between two flags (RFC 1662 section 4.2).
 
-ghost use Rattle.std.specs.Prelude.{◌≡◌, ◌+◌, ◌*◌, ◌≤◌, ◌<◌, ◌++◌, ◌%◌, ◌==◌, if◌then◌else◌, length, take};
-ghost use Rattle.ppp_frame.specs.Escapes.{must_escape, stuffed};
+ghost use Rattle.std.specs.Prelude.{◌≡◌, ◌+◌, ◌*◌, ◌≤◌, ◌<◌, ◌++◌, ◌%◌, ◌==◌, if◌then◌else◌, length, take, bit_xor};
+ghost use Rattle.ppp_frame.specs.Escapes.{must_escape, stuffed, opens as opens_escape, unstuffed, escaped_after};
 
 use crate::spelling::Spelling;
 
@@ -45,4 +45,70 @@ fn width(pair: u16) -> usize
     ensures { result ≡ (if pair % 256 == ESCAPE then 2 else 1) }
 {
     if pair % 256 == ESCAPE as u16 { 2 } else { 1 }
+}
+
+/// Writes what is read of `run` into `room` from `at` on, where the octet before it was an escape or not. It answers where
+/// that ends, and whether the last octet was an escape.
+pub(crate) fn unstuff(room: &mut [u8], at: usize, escaped: bool, run: &[u8]) -> (usize, bool)
+    requires { at + length (unstuffed escaped run.now) < length room.old }
+    ensures end { result.0 ≡ at + length (unstuffed escaped run.now) }
+    ensures escaped { result.1 ≡ escaped_after escaped run.now }
+    ensures written { take result.0 room.new ≡ take at room.old ++ unstuffed escaped run.now }
+{
+    let mut end = at;
+    let mut behind = escaped;
+    for octet in run {
+        room[end] = as_read(behind, *octet);
+        behind = opens(behind, *octet);
+        end += kept(behind);
+    }
+    (end, behind)
+}
+
+/// The number of octets that are read of `run`.
+pub(crate) fn plain_len(escaped: bool, run: &[u8]) -> usize
+    ensures { result ≡ length (unstuffed escaped run.now) }
+{
+    let mut size = 0;
+    let mut behind = escaped;
+    for octet in run {
+        behind = opens(behind, *octet);
+        size += kept(behind);
+    }
+    size
+}
+
+/// The last octet of `run` is an escape, or the octet before `run` where that is empty.
+pub(crate) fn ends_escaped(escaped: bool, run: &[u8]) -> bool
+    ensures { result ≡ escaped_after escaped run.now }
+{
+    let mut behind = escaped;
+    for octet in run {
+        behind = opens(behind, *octet);
+    }
+    behind
+}
+
+/// The octet opens an escape.
+#[inline(always)]
+fn opens(escaped: bool, octet: u8) -> bool
+    ensures { result ≡ opens_escape escaped octet }
+{
+    !escaped & (octet == ESCAPE)
+}
+
+/// The octet, changed where it stands behind an escape.
+#[inline(always)]
+fn as_read(escaped: bool, octet: u8) -> u8
+    ensures { result ≡ (if escaped then bit_xor octet TOGGLE else octet) }
+{
+    if escaped { octet ^ TOGGLE } else { octet }
+}
+
+/// How many octets are read of one that opens an escape or not.
+#[inline(always)]
+fn kept(opens: bool) -> usize
+    ensures { result ≡ (if opens then 0 else 1) }
+{
+    if opens { 0 } else { 1 }
 }

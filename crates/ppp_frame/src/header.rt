@@ -1,7 +1,7 @@
 //! Address, control and protocol before the information (RFC 1662 section 3.1).
 
-ghost use Rattle.std.specs.Prelude.{◌≡◌, ◌≤◌, take};
-ghost use Rattle.ppp_frame.specs.Header.{header_of, is_none_left, is_short as short_header, leaves_out as leaves_address};
+ghost use Rattle.std.specs.Prelude.{◌≡◌, ◌≤◌, take, drop, length};
+ghost use Rattle.ppp_frame.specs.Header.{header_of, is_none_left, is_short as short_header, leaves_out as leaves_address, read_of, behind_protocol, ReadsAs};
 
 use crate::form::Form;
 
@@ -51,4 +51,50 @@ fn is_empty(info: &[u8]) -> bool
         [] => true,
         _ => false,
     }
+}
+
+/// A header that was read: the protocol, and how many octets it has.
+#[derive(Clone, Copy)]
+pub(crate) struct Header {
+    pub(crate) protocol: u16,
+    pub(crate) size: usize,
+}
+
+/// Reads the header of a frame, where address and control (`ac`) and the protocol (`pf`) may be short.
+pub(crate) fn read_header(ac: bool, pf: bool, octets: &[u8]) -> Option<Header>
+    requires { 2 ≤ length octets.now }
+    ensures { ReadsAs octets.now result (read_of ac pf octets.now) }
+{
+    let is_whole = (octets[0] == ALL_STATIONS) & (octets[1] == UNNUMBERED);
+    if is_whole {
+        read_protocol(pf, octets, 2)
+    } else if ac {
+        read_protocol(pf, octets, 0)
+    } else {
+        None
+    }
+}
+
+/// Reads the protocol that begins at this place.
+fn read_protocol(pf: bool, octets: &[u8], at: usize) -> Option<Header>
+    requires { at ≤ length octets.now }
+    ensures { ReadsAs octets.now result (behind_protocol pf (drop at octets.now)) }
+{
+    if at == octets.len() {
+        return None;
+    }
+    let is_short = pf & (octets[at] % 2 == 1);
+    if is_short {
+        return Some(Header {
+            protocol: octets[at] as u16,
+            size: at + 1,
+        });
+    }
+    if at + 1 == octets.len() {
+        return None;
+    }
+    Some(Header {
+        protocol: octets[at] as u16 * 256 + octets[at + 1] as u16,
+        size: at + 2,
+    })
 }
