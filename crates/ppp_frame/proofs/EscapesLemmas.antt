@@ -1,8 +1,9 @@
 -- Octets as they are spelled and read.
-use Rattle.std.proofs.Common.{◌≡◌, ◌==◌, if◌then◌else◌, ℕ, ◌+◌, ◌*◌, ◌/◌, ◌%◌, ◌<◌, ◌≤◌, Bool, true, false, List, [], ◌∷◌, ◌++◌, length, get_or, take, set, refl, ap, sym, ◌∙◌, arith, bit_xor, append_assoc, length-set, length-append, append-nil}
-use Rattle.std.proofs.lemmas.Bool.{or_parts}
+use Rattle.std.proofs.Common.{◌≡◌, ◌==◌, if◌then◌else◌, ℕ, ◌+◌, ◌*◌, ◌/◌, ◌%◌, ◌<◌, ◌≤◌, Bool, true, false, List, [], ◌∷◌, ◌++◌, length, get_or, take, set, refl, ap, sym, ◌∙◌, arith, bit_xor, append_assoc, length-set, length-append, append-nil, ◌⊎◌, inl, inr, subst}
+use Rattle.ppp_frame.proofs.XorLemmas.{xor_again}
+use Rattle.std.proofs.lemmas.Bool.{or_parts, eqb-true, eqb-false, ne_eqb, true≢false}
 use Rattle.std.proofs.lemmas.List.{take_more_set, take-set, take_more, flat_map_more}
-use Rattle.ppp_frame.specs.Escapes.{must_escape, spelled, stuffed, opens, read_octet, unstuffed, escaped_after}
+use Rattle.ppp_frame.specs.Escapes.{Escapes, HasNoFlag, StandsFor, must_escape, spelled, stuffed, opens, read_octet, unstuffed, escaped_after}
 use Rattle.ppp_frame.specs.Spelling.{pair_of}
 use Rattle.ppp_frame.specs.Fcs.{fcs_of, fcs_octets, checked}
 use Rattle.std.proofs.lemmas.List.Concat.{flat_map-append}
@@ -119,3 +120,59 @@ length-unstuffed escaped (x ∷ xs) =
     at_most_one : (b : Bool) → (if b then 0 else 1) ≤ 1
     at_most_one true = omega arith
     at_most_one false = omega arith
+
+-- ---- the relation
+
+five_e : (map x : ℕ) → must_escape map x ≡ true → bit_xor x 0x20 ≡ 0x7e → ⊥
+unfolding must_escape
+five_e map x must same =
+    let is : x ≡ 0x5e = sym (xor_again x 0x20) ∙ ap (λ y. bit_xor y 0x20) same in
+    absurd (true≢false (sym must ∙ ap (must_escape map) is))
+
+-- what a sender writes stands for what it was given
+pub escapes_stuffed : (map : ℕ) (xs : List ℕ) → Escapes xs (stuffed map xs)
+escapes_stuffed map [] = refl
+escapes_stuffed map (x ∷ xs) = go (escapes_stuffed map xs) (must_escape map x) refl
+  where
+    go : Escapes xs (stuffed map xs) → (b : Bool) → must_escape map x ≡ b → Escapes (x ∷ xs) (stuffed map (x ∷ xs))
+    go more true e = (stuffed map xs, inr (five_e map x e, rw e), more)
+    go more false e =
+        (stuffed map xs, inl (eqb-false _ _ (plain_octet map x e).0, eqb-false _ _ (plain_octet map x e).1, rw e), more)
+
+-- what stands in a piece is what a reader finds there
+pub escapes_read : (xs ys : List ℕ) → Escapes xs ys → (unstuffed false ys ≡ xs) × (escaped_after false ys ≡ false)
+escapes_read [] ys none = (ap (unstuffed false) none, ap (escaped_after false) none)
+escapes_read (x ∷ xs) ys (rest, stands, more) = go (escapes_read xs rest more) stands
+  where
+    go : (unstuffed false rest ≡ xs) × (escaped_after false rest ≡ false) → StandsFor x ys rest → (unstuffed false ys ≡ x ∷ xs) × (escaped_after false ys ≡ false)
+    go found (inl (plain, other, is)) =
+        let test = ne_eqb x 0x7d plain in
+        (ap (unstuffed false) is ∙ rw test (ap (λ zs. x ∷ zs) found.0), ap (escaped_after false) is ∙ rw test found.1)
+    go found (inr (other, is)) =
+        (ap (unstuffed false) is ∙ rw (xor_again x 0x20) (ap (λ zs. x ∷ zs) found.0), ap (escaped_after false) is ∙ found.1)
+
+-- what a reader finds in octets without a flag stands there
+record FoundStands (ys : List ℕ) : Type 0 where
+  here : escaped_after false ys ≡ false → Escapes (unstuffed false ys) ys
+  behind : escaped_after true ys ≡ false → Escapes (unstuffed true ys) (0x7d ∷ ys)
+
+found_stands : (ys : List ℕ) → HasNoFlag ys → FoundStands ys
+found_stands [] none = record { here = λ plain. refl; behind = λ plain. absurd (true≢false plain) }
+found_stands (y ∷ ys) none = go (found_stands ys none.1) (y == 0x7d) refl
+  where
+    behind_it : FoundStands ys → escaped_after false ys ≡ false → Escapes (bit_xor y 0x20 ∷ unstuffed false ys) (0x7d ∷ y ∷ ys)
+    behind_it more plain =
+        (ys, inr (rw (xor_again y 0x20) none.0, rw (xor_again y 0x20)), more.here plain)
+    go : FoundStands ys → (b : Bool) → (y == 0x7d) ≡ b → FoundStands (y ∷ ys)
+    go more true e = record {
+      here = λ plain. rw e (
+        subst (λ z. Escapes (unstuffed true ys) (z ∷ ys)) (sym (eqb-true y 0x7d e)) (more.behind (rw e at plain)));
+      behind = λ plain. behind_it more plain;
+    }
+    go more false e = record {
+      here = λ plain. rw e (ys, inl (eqb-false y 0x7d e, none.0, refl), more.here (rw e at plain));
+      behind = λ plain. behind_it more plain;
+    }
+
+pub read_escapes : (ys : List ℕ) → HasNoFlag ys → escaped_after false ys ≡ false → Escapes (unstuffed false ys) ys
+read_escapes ys none plain = (found_stands ys none).here plain

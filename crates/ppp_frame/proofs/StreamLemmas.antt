@@ -1,6 +1,9 @@
 -- Streams that are cut at their flags, part by part.
 use Rattle.std.proofs.Common.{◌≡◌, ℕ, Bool, true, false, if◌then◌else◌, List, [], ◌∷◌, ◌++◌, take, refl, ap, sym, ◌∙◌, append_assoc, append-nil, one-add}
 use Rattle.std.specs.List.{prefix_len, position_or_len}
+use Rattle.std.specs.List.{AllByRecursion}
+use Rattle.std.proofs.lemmas.Bool.{eqb-false}
+use Rattle.ppp_frame.specs.Escapes.{HasNoFlag}
 use Rattle.ppp_frame.specs.Stream.{is_flag, ended, run_after, pieces_from, unfinished_from}
 
 pub pieces-append : (run xs ys : List ℕ) → pieces_from run (xs ++ ys) ≡ pieces_from run xs ++ pieces_from (unfinished_from run xs) ys
@@ -66,3 +69,21 @@ flag_pieces run x flag some = rw flag (append-nil (ended run) ∙ ended_some run
 
 pub flag_unfinished : (run : List ℕ) (x : ℕ) → is_flag x ≡ true → unfinished_from run (x ∷ []) ≡ []
 flag_unfinished run x flag = rw flag
+
+-- ---- pieces have no flag
+
+flagless-push : (run : List ℕ) (x : ℕ) → HasNoFlag run → (x ≡ 0x7e → ⊥) → HasNoFlag (run ++ x ∷ [])
+flagless-push [] x none other = (other, tt)
+flagless-push (y ∷ run) x none other = (none.0, flagless-push run x none.1 other)
+
+pub pieces_flagless : (run stream : List ℕ) → HasNoFlag run → AllByRecursion HasNoFlag (pieces_from run stream)
+pieces_flagless run [] none = tt
+pieces_flagless run (x ∷ stream) none = go (is_flag x) refl (pieces_flagless [] stream tt) (λ next. pieces_flagless (run ++ x ∷ []) stream next)
+  where
+    go : (b : Bool) → is_flag x ≡ b → AllByRecursion HasNoFlag (pieces_from [] stream) → (HasNoFlag (run ++ x ∷ []) → AllByRecursion HasNoFlag (pieces_from (run ++ x ∷ []) stream)) → AllByRecursion HasNoFlag (pieces_from run (x ∷ stream))
+    go true e fresh more = rw e (some run none)
+      where
+        some : (r : List ℕ) → HasNoFlag r → AllByRecursion HasNoFlag (ended r ++ pieces_from [] stream)
+        some [] n = fresh
+        some (y ∷ r) n = (n, fresh)
+    go false e fresh more = rw e (more (flagless-push run x none (eqb-false x 0x7e e)))

@@ -1,6 +1,7 @@
 -- The octets that stand for octets between two flags (RFC 1662 section 4.2).
 use Rattle.std.specs.Prelude.{◌≡◌, ◌≢◌, ◌⊎◌, ℕ, ◌==◌, ◌&&◌, ◌||◌, nat_lt, Bool, not, if◌then◌else◌, List, [], ◌∷◌, ◌++◌, flat_map, bit_xor}
 use Rattle.std.specs.Int.{bit_at}
+use Rattle.std.specs.List.{AllByRecursion}
 use Rattle.ppp_frame.specs.declared.escapes.TheConstants.{FLAG, ESCAPE, TOGGLE}
 
 -- an octet at the front of a piece stands for x, and the rest is left: as itself, or behind an escape
@@ -13,6 +14,10 @@ StandsFor x piece rest =
 abbrev pub Escapes : List ℕ → List ℕ → Type 0
 Escapes [] piece = piece ≡ []
 Escapes (x ∷ xs) piece = (rest : List ℕ) × StandsFor x piece rest × Escapes xs rest
+
+-- the octets have no flag
+abbrev pub HasNoFlag : List ℕ → Type 0
+HasNoFlag piece = AllByRecursion (λ x. x ≢ FLAG) piece
 
 -- ---- what a sender writes
 

@@ -1,5 +1,5 @@
 -- Frames between two flags (RFC 1662 section 3.1).
-use Rattle.std.specs.Prelude.{ℕ, Bool, List, [], ◌∷◌, ◌++◌}
+use Rattle.std.specs.Prelude.{ℕ, ◌≤◌, Bool, List, [], ◌∷◌, ◌++◌, length}
 use Rattle.ppp_frame.specs.declared.escapes.TheConstants.{FLAG}
 use Rattle.ppp_frame.specs.declared.form.Form.{Form}
 use Rattle.ppp_frame.specs.Escapes.{Escapes, stuffed}
@@ -10,6 +10,14 @@ use Rattle.ppp_frame.specs.Header.{Headed, headed}
 abbrev pub Framed : Bool → Bool → ℕ → List ℕ → List ℕ → Type 0
 Framed ac pf protocol info piece =
     (octets : List ℕ) × Headed ac pf protocol info octets × Escapes (checked octets) piece
+
+-- the same, and header, information and check sequence pass no limit
+abbrev pub FramedWithin : ℕ → Bool → Bool → ℕ → List ℕ → List ℕ → Type 0
+FramedWithin limit ac pf protocol info piece =
+    (octets : List ℕ)
+    × Headed ac pf protocol info octets
+    × Escapes (checked octets) piece
+    × (length (checked octets) ≤ limit)
 
 -- what a sender writes between the flags
 abbrev pub inside : Form → ℕ → List ℕ → List ℕ

@@ -1,5 +1,5 @@
 -- Address, control and protocol before the information (RFC 1662 section 3.1, RFC 1661 sections 6.5 and 6.6).
-use Rattle.std.specs.Prelude.{◌≡◌, ◌⊎◌, ℕ, ◌+◌, ◌*◌, ◌/◌, ◌%◌, ◌≤◌, ◌==◌, ◌&&◌, ◌||◌, nat_lt, Bool, true, not, if◌then◌else◌, List, [], ◌∷◌, ◌++◌, length, drop, Option, Some, None, option_and_then}
+use Rattle.std.specs.Prelude.{◌≡◌, ◌⊎◌, ℕ, ◌+◌, ◌*◌, ◌/◌, ◌%◌, ◌≤◌, ◌==◌, ◌&&◌, ◌||◌, nat_lt, Bool, true, false, not, if◌then◌else◌, List, [], ◌∷◌, ◌++◌, length, drop, Option, Some, None, option_and_then}
 use Rattle.ppp_frame.specs.declared.form.Form.{Form}
 use Rattle.ppp_frame.specs.declared.header.Header.{Header}
 use Rattle.ppp_frame.specs.declared.header.TheConstants.{ALL_STATIONS, UNNUMBERED, LCP}
@@ -55,6 +55,10 @@ header_of form protocol info =
 
 abbrev pub headed : Form → ℕ → List ℕ → List ℕ
 headed form protocol info = header_of form protocol info ++ info
+
+-- what is sent of this protocol is read back: no octet is taken for a short protocol
+abbrev pub ReadsBack : Form → ℕ → Type 0
+ReadsBack form protocol = (form.pf ≡ false) ⊎ (protocol / 256 % 2 ≡ 0)
 
 -- ---- what a reader finds
 

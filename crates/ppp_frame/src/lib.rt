@@ -10,6 +10,7 @@ mod form;
 mod frame_buf;
 mod frame_ref;
 mod header;
+mod law;
 mod spelling;
 mod too_long;
 mod why;
@@ -22,6 +23,7 @@ pub use form::Form;
 pub use frame_buf::{FrameBuf, MOST_INFO, ROOM, encode};
 pub use frame_ref::FrameRef;
 pub use header::{ALL_STATIONS, LCP, UNNUMBERED};
+pub use law::read_back;
 pub use too_long::TooLong;
 pub use why::Why;
 
