@@ -1,5 +1,5 @@
 -- Octets as they are spelled and read.
-use Rattle.std.proofs.Common.{◌≡◌, ◌==◌, if◌then◌else◌, ℕ, ◌+◌, ◌*◌, ◌/◌, ◌%◌, ◌<◌, ◌≤◌, Bool, true, false, List, [], ◌∷◌, ◌++◌, length, get_or, take, set, refl, ap, sym, ◌∙◌, arith, bit_xor, append_assoc, length-set, length-append, append-nil, ◌⊎◌, inl, inr, subst}
+use Rattle.std.proofs.Common.{◌≡◌, ◌==◌, if◌then◌else◌, ℕ, ◌+◌, ◌*◌, ◌/◌, ◌%◌, ◌<◌, ◌≤◌, Bool, true, false, List, [], ◌∷◌, ◌++◌, length, get_or, take, set, refl, ap, sym, ◌∙◌, arith, bit_xor, append_assoc, length-set, length-append, append-nil, inl, inr, subst}
 use Rattle.ppp_frame.proofs.XorLemmas.{xor_again}
 use Rattle.std.proofs.lemmas.Bool.{or_parts, eqb-true, eqb-false, ne_eqb, true≢false}
 use Rattle.std.proofs.lemmas.List.{take_more_set, take-set, take_more, flat_map_more}
@@ -163,10 +163,11 @@ found_stands (y ∷ ys) none = go (found_stands ys none.1) (y == 0x7d) refl
     behind_it : FoundStands ys → escaped_after false ys ≡ false → Escapes (bit_xor y 0x20 ∷ unstuffed false ys) (0x7d ∷ y ∷ ys)
     behind_it more plain =
         (ys, inr (rw (xor_again y 0x20) none.0, rw (xor_again y 0x20)), more.here plain)
+
     go : FoundStands ys → (b : Bool) → (y == 0x7d) ≡ b → FoundStands (y ∷ ys)
     go more true e = record {
       here = λ plain. rw e (
-        subst (λ z. Escapes (unstuffed true ys) (z ∷ ys)) (sym (eqb-true y 0x7d e)) (more.behind (rw e at plain)));
+          subst (λ z. Escapes (unstuffed true ys) (z ∷ ys)) (sym (eqb-true y 0x7d e)) (more.behind (rw e at plain)));
       behind = λ plain. behind_it more plain;
     }
     go more false e = record {

@@ -1,16 +1,15 @@
 -- Frames as they are sent and read.
-use Rattle.std.proofs.Common.{◌≡◌, ◌↔◌, ℕ, ◌+◌, ◌-◌, ◌<◌, ◌≤◌, nat_lt, Bool, true, false, not, List, [], ◌∷◌, ◌++◌, length, take, drop, Option, Some, None, refl, ap, sym, subst, ◌∙◌, arith, length-append}
-use Rattle.std.specs.Option.{option_map}
-use Rattle.std.proofs.lemmas.Bool.{le-ltb, ltb-false, not-false}
+use Rattle.std.proofs.Common.{◌≡◌, ℕ, ◌+◌, ◌-◌, ◌≤◌, nat_lt, Bool, true, false, List, ◌++◌, length, drop, Option, Some, None, refl, ap, sym, subst, ◌∙◌, arith, length-append}
+use Rattle.std.proofs.lemmas.Bool.{le-ltb, ltb-false}
 use Rattle.std.proofs.lemmas.List.{drop_at, take-append-drop, take_at}
 use Rattle.std.proofs.lemmas.Slice.Eq.{bytes_eq-Decides}
 use Rattle.ppp_frame.specs.declared.form.Form.{Form}
 use Rattle.ppp_frame.specs.declared.why.Why.TheVariants.{Aborted, Oversize, Short, BadFcs, BadHeader}
-use Rattle.ppp_frame.specs.Escapes.{Escapes, HasNoFlag, escaped_after, stuffed, unstuffed}
+use Rattle.ppp_frame.specs.Escapes.{Escapes, HasNoFlag, escaped_after, unstuffed}
 use Rattle.ppp_frame.specs.Fcs.{checked, fcs_octets}
 use Rattle.ppp_frame.specs.Frame.{Framed, FramedWithin, inside}
-use Rattle.ppp_frame.specs.Header.{Headed, Read, ReadsBack, headed, read_of, reads}
-use Rattle.ppp_frame.specs.Verdict.{Reader, Verdict, Discarded, Taken, answer_of, before_check, is_checked, verdict_of, verdict_of_header}
+use Rattle.ppp_frame.specs.Header.{Read, ReadsBack, headed, read_of, reads}
+use Rattle.ppp_frame.specs.Verdict.{Reader, Discarded, Taken, answer_of, before_check, is_checked, verdict_of}
 use Rattle.ppp_frame.proofs.EscapesLemmas.{escapes_read, escapes_stuffed, read_escapes}
 use Rattle.ppp_frame.proofs.HeaderLemmas.{headed_read, one_read, read_headed, sent_headed}
 
@@ -29,7 +28,7 @@ unfolding is_checked
 checked_is octets =
     let long = length-checked octets in
     let last : drop (length (checked octets) - 2) (checked octets) ≡ fcs_octets octets =
-        drop_at octets (fcs_octets octets) (length (checked octets) - 2) (omega arith) in
+    drop_at octets (fcs_octets octets) (length (checked octets) - 2) (omega arith) in
     (bytes_eq-Decides _ _).1 (last ∙ ap fcs_octets (sym (before_checked octets)))
 
 is_checked_parts : (plain : List ℕ) → is_checked plain ≡ true → checked (before_check plain) ≡ plain
@@ -47,10 +46,10 @@ sent_framed form protocol info back =
 pub framed_once : (ac pf : Bool) (p q : ℕ) (xs ys piece : List ℕ) → Framed ac pf p xs piece → Framed ac pf q ys piece → (p ≡ q) × (xs ≡ ys)
 framed_once ac pf p q xs ys piece (one, headed_one, stands_one) (other, headed_other, stands_other) =
     let same : checked one ≡ checked other =
-        sym (escapes_read (checked one) piece stands_one).0 ∙ (escapes_read (checked other) piece stands_other).0 in
+    sym (escapes_read (checked one) piece stands_one).0 ∙ (escapes_read (checked other) piece stands_other).0 in
     let octets : one ≡ other = sym (before_checked one) ∙ ap before_check same ∙ before_checked other in
     one_read p q xs ys (
-      sym (headed_read ac pf p xs one headed_one) ∙ ap (read_of ac pf) octets ∙ headed_read ac pf q ys other headed_other)
+    sym (headed_read ac pf p xs one headed_one) ∙ ap (read_of ac pf) octets ∙ headed_read ac pf q ys other headed_other)
 
 -- ---- a frame is answered exactly where the piece is one
 
@@ -91,7 +90,9 @@ answered_framed r protocol info piece none taken = go (escaped_after false piece
     go false e false f =
         let plain = unstuffed false piece in
         let takes = verdict_taken r.ac r.pf plain protocol info (rw (e, f) at taken) in
-        let parts = is_checked_parts plain takes.checks in
-        (before_check plain, read_headed r.ac r.pf protocol info (before_check plain) takes.reads_so,
-        subst (λ xs. Escapes xs piece) (sym parts) (read_escapes piece none e),
-        subst (λ xs. length xs ≤ r.limit) (sym parts) (ltb-false _ _ f))
+        let parts = is_checked_parts plain takes.checks in (
+          before_check plain,
+          read_headed r.ac r.pf protocol info (before_check plain) takes.reads_so,
+          subst (λ xs. Escapes xs piece) (sym parts) (read_escapes piece none e),
+          subst (λ xs. length xs ≤ r.limit) (sym parts) (ltb-false _ _ f),
+        )

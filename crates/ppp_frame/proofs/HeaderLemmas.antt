@@ -1,5 +1,5 @@
 -- Headers as they are written and read.
-use Rattle.std.proofs.Common.{◌≡◌, ◌&&◌, ◌==◌, ◌≤◌, ◌+◌, ◌*◌, ℕ, ◌<◌, ◌%◌, Bool, true, false, List, [], ◌∷◌, length, drop, get_or, Some, None, refl, ap, ◌∙◌, arith, ◌⊎◌, inl, inr, subst, ◌++◌, ◌/◌, not, ◌||◌, Option, sym}
+use Rattle.std.proofs.Common.{◌≡◌, ◌&&◌, ◌==◌, ◌≤◌, ◌+◌, ◌*◌, ℕ, ◌<◌, ◌%◌, Bool, true, false, List, [], ◌∷◌, length, drop, get_or, Some, None, refl, ap, ◌∙◌, arith, inl, inr, subst, ◌++◌, ◌/◌, Option, sym}
 use Rattle.std.specs.Option.{option_and_then}
 use Rattle.std.proofs.lemmas.Bool.{and_parts, and_from, ltb-true, eqb-true, eqb-false, eq-eqb, true≢false, not-true}
 use Rattle.std.proofs.lemmas.List.{drop_all, drop_more}
@@ -117,9 +117,9 @@ read_numbered pf protocol info (x ∷ rest) read = go (pf && x % 2 == 1) refl re
     go false e (y ∷ more) read =
         let same = one_read _ _ _ _ (rw e at read) in
         let even : pf ≡ true → x % 2 ≡ 0 = λ may.
-            let not_odd = eqb-false _ _ (rw may at e) in
-            let odd : x % 2 ≡ 1 → ⊥ = not_odd in
-            omega arith in
+        let not_odd = eqb-false _ _ (rw may at e) in
+        let odd : x % 2 ≡ 1 → ⊥ = not_odd in
+        omega arith in
         inl (x, y, (λ i. x ∷ y ∷ same.1 i), sym same.0, even)
 
 pub read_headed : (ac pf : Bool) (protocol : ℕ) (info octets : List ℕ) → read_of ac pf octets ≡ Some (reads protocol info) → Headed ac pf protocol info octets
@@ -132,11 +132,12 @@ read_headed ac pf protocol info (a ∷ b ∷ more) read = go (a == 0xff && b == 
     short true may e =
         let number : behind_protocol pf (a ∷ b ∷ more) ≡ Some (reads protocol info) = rw (e, may) at read in
         let other : BeginsAddressed (a ∷ b ∷ more) → ⊥ = λ begins.
-            let first : a ≡ 0xff = ap (λ xs. get_or xs 0 0) begins.1 in
-            let second : b ≡ 0x03 = ap (λ xs. get_or xs 1 0) begins.1 in
-            true≢false (sym (and_from _ _ (eq-eqb a 0xff first) (eq-eqb b 0x03 second)) ∙ e) in
+        let first : a ≡ 0xff = ap (λ xs. get_or xs 0 0) begins.1 in
+        let second : b ≡ 0x03 = ap (λ xs. get_or xs 1 0) begins.1 in
+        true≢false (sym (and_from _ _ (eq-eqb a 0xff first) (eq-eqb b 0x03 second)) ∙ e) in
         (a ∷ b ∷ more, inr (may, refl, other), read_numbered pf protocol info (a ∷ b ∷ more) number, omega arith)
     short false may e = let none : None ≡ Some (reads protocol info) = rw (e, may) at read in absurd (cc)
+
     go : (t : Bool) → (a == 0xff && b == 0x03) ≡ t → Headed ac pf protocol info (a ∷ b ∷ more)
     go true e =
         let both = and_parts _ _ e in
@@ -176,11 +177,19 @@ sent_numbered form protocol info false (inr even) e =
 sent_addressed : (form : Form) (protocol : ℕ) (info : List ℕ) (left short : Bool) → leaves_out form protocol ≡ left → is_short form protocol info ≡ short → Addressed form.ac (protocol_octets short protocol ++ info) ((address_octets left ++ protocol_octets short protocol) ++ info)
 sent_addressed form protocol info false short e f = inl refl
 sent_addressed form protocol info true true e f =
-    inr ((left_parts form protocol e).0, refl, λ begins.
-      (short_parts form protocol info f).2 (ap (λ xs. get_or xs 0 0) begins.1))
+    inr (
+      (left_parts form protocol e).0,
+      refl,
+      λ begins.
+          (short_parts form protocol info f).2 (ap (λ xs. get_or xs 0 0) begins.1),
+    )
 sent_addressed form protocol info true false e f =
-    inr ((left_parts form protocol e).0, refl, λ begins.
-      (left_parts form protocol e).1 (ap (λ xs. get_or xs 0 0) begins.1))
+    inr (
+      (left_parts form protocol e).0,
+      refl,
+      λ begins.
+          (left_parts form protocol e).1 (ap (λ xs. get_or xs 0 0) begins.1),
+    )
 
 two_or_more : (form : Form) (protocol : ℕ) (info : List ℕ) (left short : Bool) → leaves_out form protocol ≡ left → is_short form protocol info ≡ short → 2 ≤ length ((address_octets left ++ protocol_octets short protocol) ++ info)
 two_or_more form protocol info false true e f = omega arith
@@ -191,8 +200,9 @@ two_or_more form protocol (x ∷ info) true true e f = omega arith
 
 -- a sender's header is a header of its protocol and information
 pub sent_headed : (form : Form) (protocol : ℕ) (info : List ℕ) → ReadsBack form protocol → Headed form.ac form.pf protocol info (headed form protocol info)
-sent_headed form protocol info back =
-    (protocol_octets (is_short form protocol info) protocol ++ info,
-    sent_addressed form protocol info _ _ refl refl,
-    sent_numbered form protocol info _ back refl,
-    two_or_more form protocol info _ _ refl refl)
+sent_headed form protocol info back = (
+  protocol_octets (is_short form protocol info) protocol ++ info,
+  sent_addressed form protocol info _ _ refl refl,
+  sent_numbered form protocol info _ back refl,
+  two_or_more form protocol info _ _ refl refl,
+)

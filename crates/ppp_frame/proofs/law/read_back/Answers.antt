@@ -9,10 +9,11 @@ pub returns : goal.returns
 returns c = record {
   sent = λ form protocol info back other others.
       let piece = inside form protocol info in
-      let sent = sent_framed form protocol info back in
-      (λ framed. framed_once form.ac form.pf other protocol others info piece framed sent,
-      λ same. subst (λ (p : ℕ). Framed form.ac form.pf p others piece) (sym same.0) (
-        subst (λ (xs : List ℕ). Framed form.ac form.pf protocol xs piece) (sym same.1) sent));
+      let sent = sent_framed form protocol info back in (
+        λ framed. framed_once form.ac form.pf other protocol others info piece framed sent,
+        λ same. subst (λ (p : ℕ). Framed form.ac form.pf p others piece) (sym same.0) (
+            subst (λ (xs : List ℕ). Framed form.ac form.pf protocol xs piece) (sym same.1) sent),
+      );
   answered = λ reader protocol info piece none.
       (answered_framed reader protocol info piece none, framed_answered reader protocol info piece);
   header = λ ac pf protocol info octets.
