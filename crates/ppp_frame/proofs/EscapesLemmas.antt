@@ -1,9 +1,10 @@
 -- Octets as they are spelled and read.
-use Rattle.std.proofs.Common.{◌≡◌, ◌==◌, if◌then◌else◌, ℕ, ◌+◌, ◌*◌, ◌/◌, ◌%◌, ◌<◌, ◌≤◌, Bool, true, false, List, [], ◌∷◌, ◌++◌, length, get_or, take, set, refl, ap, sym, ◌∙◌, arith, bit_xor, append_assoc, length-set, length-append, append-nil, inl, inr, subst}
+use Rattle.std.proofs.Common.{◌≡◌, ◌==◌, if◌then◌else◌, ℕ, ◌+◌, ◌*◌, ◌/◌, ◌%◌, ◌<◌, ◌≤◌, Bool, true, false, List, [], ◌∷◌, ◌++◌, length, get_or, take, drop, set, refl, ap, sym, ◌∙◌, arith, bit_xor, append_assoc, length-set, length-append, append-nil, inl, inr, subst}
 use Rattle.ppp_frame.proofs.XorLemmas.{xor_again}
+use Rattle.std.specs.List.{list_any}
 use Rattle.std.proofs.lemmas.Bool.{or_parts, eqb-true, eqb-false, ne_eqb, true≢false}
-use Rattle.std.proofs.lemmas.List.{take_more_set, take-set, take_more, flat_map_more}
-use Rattle.ppp_frame.specs.Escapes.{Escapes, HasNoFlag, StandsFor, must_escape, spelled, stuffed, opens, read_octet, unstuffed, escaped_after}
+use Rattle.std.proofs.lemmas.List.{take-append-drop, take_more_set, take-set, take_more, flat_map_more}
+use Rattle.ppp_frame.specs.Escapes.{Escapes, HasNoFlag, is_escape, StandsFor, must_escape, spelled, stuffed, opens, read_octet, unstuffed, escaped_after}
 use Rattle.ppp_frame.specs.Spelling.{pair_of}
 use Rattle.ppp_frame.specs.Fcs.{fcs_of, fcs_octets, checked}
 use Rattle.std.proofs.lemmas.List.Concat.{flat_map-append}
@@ -177,3 +178,28 @@ found_stands (y ∷ ys) none = go (found_stands ys none.1) (y == 0x7d) refl
 
 pub read_escapes : (ys : List ℕ) → HasNoFlag ys → escaped_after false ys ≡ false → Escapes (unstuffed false ys) ys
 read_escapes ys none plain = (found_stands ys none).here plain
+
+-- octets without an escape are read as they are
+pub record ReadsPlain (xs : List ℕ) : Type 0 where
+  pub same : unstuffed false xs ≡ xs
+  pub after : escaped_after false xs ≡ false
+
+pub reads_plain : (xs : List ℕ) → list_any is_escape xs ≡ false → ReadsPlain xs
+reads_plain [] none = record { same = refl; after = refl }
+reads_plain (x ∷ xs) none =
+    let parts : ((x == 0x7d) ≡ false) × (list_any is_escape xs ≡ false) = or_parts _ _ none in
+    let plain : (x == 0x7d) ≡ false = parts.0 in
+    let more = reads_plain xs parts.1 in
+    record { same = rw plain (ap (λ ys. x ∷ ys) more.same); after = rw plain more.after }
+
+-- octets in two parts
+whole_again : (n : ℕ) (run block more : List ℕ) → block ≡ take n run → more ≡ drop n run → run ≡ block ++ more
+whole_again n run block more front back = sym (take-append-drop n run) ∙ sym (λ i. front i ++ back i)
+
+pub unstuffed_parts : (escaped : Bool) (n : ℕ) (run block more : List ℕ) → block ≡ take n run → more ≡ drop n run → unstuffed escaped run ≡ unstuffed escaped block ++ unstuffed (escaped_after escaped block) more
+unstuffed_parts escaped n run block more front back =
+    ap (unstuffed escaped) (whole_again n run block more front back) ∙ unstuffed-append escaped block more
+
+pub escaped_parts : (escaped : Bool) (n : ℕ) (run block more : List ℕ) → block ≡ take n run → more ≡ drop n run → escaped_after escaped run ≡ escaped_after (escaped_after escaped block) more
+escaped_parts escaped n run block more front back =
+    ap (escaped_after escaped) (whole_again n run block more front back) ∙ escaped_after-append escaped block more

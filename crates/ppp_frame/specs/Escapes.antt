@@ -33,6 +33,9 @@ stuffed map xs = flat_map (spelled map) xs
 
 -- ---- what a reader finds
 
+abbrev pub is_escape : ℕ → Bool
+is_escape x = x == ESCAPE
+
 -- the octet opens an escape: it is one, and the octet before it was none
 abbrev pub opens : Bool → ℕ → Bool
 opens escaped x = not escaped && x == ESCAPE

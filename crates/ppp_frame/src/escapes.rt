@@ -1,7 +1,8 @@
 //! The octets that stand for octets between two flags (RFC 1662 section 4.2).
 
 ghost use Rattle.std.specs.Prelude.{◌≡◌, ◌+◌, ◌*◌, ◌≤◌, ◌<◌, ◌++◌, ◌%◌, ◌==◌, if◌then◌else◌, length, take, bit_xor};
-ghost use Rattle.ppp_frame.specs.Escapes.{must_escape, stuffed, opens as opens_escape, unstuffed, escaped_after};
+ghost use Rattle.std.specs.List.{list_any};
+ghost use Rattle.ppp_frame.specs.Escapes.{escaped_after, is_escape, must_escape, opens as opens_escape, stuffed, unstuffed};
 
 use crate::spelling::Spelling;
 
@@ -47,9 +48,44 @@ fn width(pair: u16) -> usize
     if pair % 256 == ESCAPE as u16 { 2 } else { 1 }
 }
 
+/// How many octets are looked at together, and copied where none of them stands for another.
+const BLOCK: usize = 32;
+
 /// Writes what is read of `run` into `room` from `at` on, where the octet before it was an escape or not. It answers where
 /// that ends, and whether the last octet was an escape.
 pub(crate) fn unstuff(room: &mut [u8], at: usize, escaped: bool, run: &[u8]) -> (usize, bool)
+    requires { at + length (unstuffed escaped run.now) < length room.old }
+    ensures end { result.0 ≡ at + length (unstuffed escaped run.now) }
+    ensures escaped { result.1 ≡ escaped_after escaped run.now }
+    ensures written { take result.0 room.new ≡ take at room.old ++ unstuffed escaped run.now }
+{
+    let mut end = at;
+    let mut behind = escaped;
+    let mut rest = run;
+    'whole: while rest.len() >= BLOCK {
+        let (block, more) = rest.split_at(BLOCK);
+        (end, behind) = unstuff_block(room, end, behind, block);
+        rest = more;
+    }
+    unstuff_each(room, end, behind, rest)
+}
+
+#[inline(always)]
+fn unstuff_block(room: &mut [u8], at: usize, escaped: bool, block: &[u8]) -> (usize, bool)
+    requires { at + length (unstuffed escaped block.now) < length room.old }
+    ensures end { result.0 ≡ at + length (unstuffed escaped block.now) }
+    ensures escaped { result.1 ≡ escaped_after escaped block.now }
+    ensures written { take result.0 room.new ≡ take at room.old ++ unstuffed escaped block.now }
+{
+    if escaped || has_escape(block) {
+        return unstuff_each(room, at, escaped, block);
+    }
+    copy_block(room, at, block);
+    (at + block.len(), false)
+}
+
+#[inline(always)]
+fn unstuff_each(room: &mut [u8], at: usize, escaped: bool, run: &[u8]) -> (usize, bool)
     requires { at + length (unstuffed escaped run.now) < length room.old }
     ensures end { result.0 ≡ at + length (unstuffed escaped run.now) }
     ensures escaped { result.1 ≡ escaped_after escaped run.now }
@@ -63,6 +99,27 @@ pub(crate) fn unstuff(room: &mut [u8], at: usize, escaped: bool, run: &[u8]) -> 
         end += kept(behind);
     }
     (end, behind)
+}
+
+/// One of the octets is an escape.
+#[inline(always)]
+fn has_escape(block: &[u8]) -> bool
+    ensures { result ≡ list_any is_escape block.now }
+{
+    let mut found = false;
+    for octet in block {
+        found |= *octet == ESCAPE;
+    }
+    found
+}
+
+/// Copies the octets into `room`, from `at` on.
+#[inline(always)]
+fn copy_block(room: &mut [u8], at: usize, block: &[u8])
+    requires { at + length block.now ≤ length room.old }
+    ensures { take (at + length block.now) room.new ≡ take at room.old ++ block.now }
+{
+    room[at..at + block.len()].copy_from_slice(block);
 }
 
 /// The number of octets that are read of `run`.
