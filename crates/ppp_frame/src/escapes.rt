@@ -94,8 +94,9 @@ fn unstuff_each(room: &mut [u8], at: usize, escaped: bool, run: &[u8]) -> (usize
     let mut end = at;
     let mut behind = escaped;
     for octet in run {
-        room[end] = as_read(behind, *octet);
-        behind = opens(behind, *octet);
+        let octet = *octet;
+        room[end] = as_read(behind, octet);
+        behind = opens(behind, octet);
         end += kept(behind);
     }
     (end, behind)
