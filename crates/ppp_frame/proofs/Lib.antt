@@ -1,0 +1,10 @@
+pub mod EscapesLemmas
+pub mod FcsLemmas
+pub mod FeedingLemmas
+pub mod FrameLemmas
+pub mod HeaderLemmas
+pub mod StandardFacts
+pub mod StandingLemmas
+pub mod StreamLemmas
+pub mod VerdictLemmas
+pub mod XorLemmas

@@ -1,0 +1,11 @@
+pub mod Deframer
+pub mod Escapes
+pub mod Fcs
+pub mod Frame
+pub mod FrameBuf
+pub mod FrameRef
+pub mod Header
+pub mod Spelling
+pub mod Standing
+pub mod Stream
+pub mod Verdict

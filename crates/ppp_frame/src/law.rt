@@ -1,0 +1,31 @@
+//! What the forms of this crate promise of one another.
+
+ghost use Rattle.std.specs.Prelude.{◌≡◌, ◌↔◌, ℕ, Bool, List, Some};
+ghost use Rattle.std.specs.List.{AllByRecursion};
+ghost use Rattle.ppp_frame.specs.declared.form.Form.{Form};
+ghost use Rattle.ppp_frame.specs.Escapes.{HasNoFlag};
+ghost use Rattle.ppp_frame.specs.Frame.{Framed, FramedWithin, inside};
+ghost use Rattle.ppp_frame.specs.Header.{Headed, ReadsBack, read_of, reads};
+ghost use Rattle.ppp_frame.specs.Stream.{pieces};
+ghost use Rattle.ppp_frame.specs.Verdict.{Reader, Taken, answer_of};
+
+/// Does nothing. Its clauses are laws (RFC 1662 section 3.1, RFC 1661 sections 6.5 and 6.6):
+///
+/// - `sent`: what [`encode`](crate::encode) writes between the flags is a frame of its protocol and information, and of no
+///   others, to a reader who takes the short headers of the form. It holds of each protocol whose high octet is even, and of
+///   every protocol where the form has no short one.
+/// - `answered`: a frame is answered exactly where the piece is a frame of that protocol and information within the limit.
+/// - `header`: a header is read exactly where the octets are headed by that protocol and information, so that a bad header
+///   is that of none.
+/// - `pieces`: the pieces of a stream have no flag, as `answered` asks.
+pub fn read_back()
+    ensures sent { (form : Form) (protocol : ℕ) (info : List ℕ) → ReadsBack form protocol
+        → (other : ℕ) (others : List ℕ) → Framed form.ac form.pf other others (inside form protocol info)
+        ↔ ((other ≡ protocol) × (others ≡ info)) }
+    ensures answered { (reader : Reader) (protocol : ℕ) (info piece : List ℕ) → HasNoFlag piece
+        → (answer_of reader piece ≡ Taken (reads protocol info))
+        ↔ FramedWithin reader.limit reader.ac reader.pf protocol info piece }
+    ensures header { (ac pf : Bool) (protocol : ℕ) (info octets : List ℕ) →
+        (read_of ac pf octets ≡ Some (reads protocol info)) ↔ Headed ac pf protocol info octets }
+    ensures pieces { (stream : List ℕ) → AllByRecursion HasNoFlag (pieces stream) }
+{}
