@@ -78,9 +78,9 @@ ends_by d verdict used = record {
 
 unfoldable pub feeding : Deframing → List ℕ → Feeding
 feeding d piece =
-    if flag_at d.standing piece == length piece
-    then goes_on d (after d.reader.limit d.standing (run_in d.standing piece)) (length piece)
-    else ends_by d (verdict_at d.reader (after d.reader.limit d.standing (run_in d.standing piece))) (flag_at d.standing piece + 1)
+    let s = after d.reader.limit d.standing (run_in d.standing piece) in
+    if flag_at d.standing piece == length piece then goes_on d s (length piece)
+    else ends_by d (verdict_at d.reader s) (flag_at d.standing piece + 1)
 
 -- ---- one call, seen from the whole stream
 

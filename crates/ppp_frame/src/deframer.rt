@@ -1,6 +1,6 @@
 //! What cuts a stream of octets into frames.
 
-ghost use Rattle.std.specs.Prelude.{◌≡◌, ◌≢◌, ◌+◌, ◌<◌, ◌≤◌, ◌++◌, ℕ, [], List, length, take, Some, None, false, IfOk, IsSome, IsTrue, ◌↔◌, if◌then◌else◌, nat_le};
+ghost use Rattle.std.specs.Prelude.{◌≡◌, ◌≢◌, ◌+◌, ◌<◌, ◌≤◌, ◌++◌, ℕ, [], List, length, take, Some, None, IfOk, IsSome, IsTrue, ◌↔◌, if◌then◌else◌, nat_le};
 ghost use Rattle.std.specs.List.{prefix_len, position_or_len};
 ghost use Rattle.ppp_frame.specs.Deframer.{Answers, LiesWithin, Stands, feeding, verdict_seen};
 ghost use Rattle.ppp_frame.specs.Escapes.{escaped_after, unstuffed};
@@ -8,7 +8,7 @@ ghost use Rattle.ppp_frame.specs.Fcs.{fcs_run};
 ghost use Rattle.ppp_frame.specs.FrameRef.{frame_ref_seen};
 ghost use Rattle.ppp_frame.specs.Standing.{after, fresh, is_fresh as is_fresh_standing, verdict_at};
 ghost use Rattle.ppp_frame.specs.Stream.{is_flag};
-ghost use Rattle.ppp_frame.specs.Verdict.{frame_in, got_of, verdict_of};
+ghost use Rattle.ppp_frame.specs.Verdict.{frame_in, got_of, verdict_of, whole_headers};
 
 use crate::check_sequence::{GOOD, START, after_octets};
 use crate::escapes::{FLAG, ends_escaped, plain_len, unstuff};
@@ -60,7 +60,7 @@ impl Deframer {
     /// and check sequence. It takes one octet more than the limit, and is refused for want of memory alone.
     pub fn new(alloc: Global, limit: usize) -> Result<Deframer, Memory>
         ensures stands { IfOk result (λ d. Stands d []) }
-        ensures reader { IfOk result (λ d. d.reader ≡ record { limit = limit; ac = false; pf = false }) }
+        ensures reader { IfOk result (λ d. d.reader ≡ whole_headers limit) }
         ensures frame { IfOk result (λ d. d.frame ≡ None) }
     {
         let Some(size) = limit.checked_add(1) else {

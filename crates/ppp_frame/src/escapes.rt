@@ -31,7 +31,8 @@ pub(crate) fn stuff(room: &mut [u8], at: usize, spelling: &Spelling, octets: &[u
     requires { at + 2 * length octets.now ≤ length room.old }
     ensures end { result ≡ at + length (stuffed spelling.now.map octets.now) }
     ensures within { result ≤ at + 2 * length octets.now }
-    ensures written { take result room.new ≡ take at room.old ++ stuffed spelling.now.map octets.now }
+    ensures written { take result room.new
+        ≡ take at room.old ++ stuffed spelling.now.map octets.now }
 {
     let mut end = at;
     let mut rest = octets;
@@ -48,7 +49,8 @@ fn stuff_block(room: &mut [u8], at: usize, spelling: &Spelling, block: &[u8]) ->
     requires { at + 2 * length block.now ≤ length room.old }
     ensures end { result ≡ at + length (stuffed spelling.now.map block.now) }
     ensures within { result ≤ at + 2 * length block.now }
-    ensures written { take result room.new ≡ take at room.old ++ stuffed spelling.now.map block.now }
+    ensures written { take result room.new
+        ≡ take at room.old ++ stuffed spelling.now.map block.now }
 {
     if has_special(lowest_plain(spelling.map), block) {
         return stuff_each(room, at, spelling, block);
@@ -62,7 +64,8 @@ fn stuff_each(room: &mut [u8], at: usize, spelling: &Spelling, octets: &[u8]) ->
     requires { at + 2 * length octets.now ≤ length room.old }
     ensures end { result ≡ at + length (stuffed spelling.now.map octets.now) }
     ensures within { result ≤ at + 2 * length octets.now }
-    ensures written { take result room.new ≡ take at room.old ++ stuffed spelling.now.map octets.now }
+    ensures written { take result room.new
+        ≡ take at room.old ++ stuffed spelling.now.map octets.now }
 {
     let mut end = at;
     for octet in octets {
@@ -125,7 +128,8 @@ fn unstuff_block(room: &mut [u8], at: usize, escaped: bool, block: &[u8]) -> (us
     requires { at + length (unstuffed escaped block.now) < length room.old }
     ensures end { result.0 ≡ at + length (unstuffed escaped block.now) }
     ensures escaped { result.1 ≡ escaped_after escaped block.now }
-    ensures written { take result.0 room.new ≡ take at room.old ++ unstuffed escaped block.now }
+    ensures written { take result.0 room.new
+        ≡ take at room.old ++ unstuffed escaped block.now }
 {
     if escaped || has_escape(block) {
         return unstuff_each(room, at, escaped, block);

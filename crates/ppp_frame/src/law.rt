@@ -20,10 +20,11 @@ ghost use Rattle.ppp_frame.specs.Verdict.{Reader, Taken, answer_of};
 /// - `pieces`: the pieces of a stream have no flag, as `answered` asks.
 pub fn read_back()
     ensures sent { (form : Form) (protocol : ℕ) (info : List ℕ) → ReadsBack form protocol
-        → (other : ℕ) (others : List ℕ) → Framed form.ac form.pf other others (inside form protocol info)
+        → (other : ℕ) (others : List ℕ)
+        → Framed form.ac form.pf other others (inside form protocol info)
         ↔ ((other ≡ protocol) × (others ≡ info)) }
-    ensures answered { (reader : Reader) (protocol : ℕ) (info piece : List ℕ) → HasNoFlag piece
-        → (answer_of reader piece ≡ Taken (reads protocol info))
+    ensures answered { (reader : Reader) (protocol : ℕ) (info piece : List ℕ)
+        → HasNoFlag piece → (answer_of reader piece ≡ Taken (reads protocol info))
         ↔ FramedWithin reader.limit reader.ac reader.pf protocol info piece }
     ensures header { (ac pf : Bool) (protocol : ℕ) (info octets : List ℕ) →
         (read_of ac pf octets ≡ Some (reads protocol info)) ↔ Headed ac pf protocol info octets }
