@@ -1,3 +1,4 @@
+pub mod DiscardLemmas
 pub mod EscapesLemmas
 pub mod FcsLemmas
 pub mod FeedingLemmas
