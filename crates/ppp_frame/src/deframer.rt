@@ -2,7 +2,7 @@
 
 ghost use Rattle.std.specs.Prelude.{◌≡◌, ◌≢◌, ◌+◌, ◌<◌, ◌≤◌, ◌++◌, ℕ, [], List, length, take, Some, None, IfOk, IsSome, IsTrue, ◌↔◌, if◌then◌else◌, nat_le};
 ghost use Rattle.std.specs.List.{prefix_len, position_or_len};
-ghost use Rattle.ppp_frame.specs.Deframer.{Answers, LiesWithin, Stands, feeding, verdict_seen};
+ghost use Rattle.ppp_frame.specs.Deframer.{Answers, LiesWithin, Stands, feed_step, verdict_seen};
 ghost use Rattle.ppp_frame.specs.Escapes.{escaped_after, unstuffed};
 ghost use Rattle.ppp_frame.specs.Fcs.{fcs_run};
 ghost use Rattle.ppp_frame.specs.FrameRef.{frame_ref_seen};
@@ -46,9 +46,9 @@ struct Lent {
 }
 
 impl Model for Deframer {
-    ghost use Rattle.ppp_frame.specs.Deframer.{Deframing, deframer_seen, IsDeframer};
+    ghost use Rattle.ppp_frame.specs.Deframer.{DeframerState, deframer_seen, IsDeframer};
 
-    ghost Value = { Deframing };
+    ghost Value = { DeframerState };
 
     ghost view = { deframer_seen };
 
@@ -123,10 +123,10 @@ impl Deframer {
     /// piece that a flag ended is judged by what [`set_short`](Deframer::set_short) set last, and the deframer then stands as
     /// after a flag. The frame that was lent before is taken back. It takes no memory.
     ///
-    /// `stands` and `answers` speak of the whole stream so far, so that the answers are the same in any cutting; `feeding` is
+    /// `stands` and `answers` speak of the whole stream so far, so that the answers are the same in any cutting; `step` is
     /// the same as a function of what stood before the call.
     pub fn feed(&mut self, piece: &[u8]) -> Fed
-        ensures feeding { feeding self.old piece.now ≡ record { fed = result; left = self.new } }
+        ensures step { feed_step self.old piece.now ≡ record { fed = result; left = self.new } }
         ensures stands { (before : List ℕ) → Stands self.old before
             → Stands self.new (before ++ take result.used piece.now) }
         ensures answers { (before : List ℕ) → Stands self.old before
@@ -140,7 +140,7 @@ impl Deframer {
 
     #[inline]
     fn feed_once(&mut self, piece: &[u8]) -> Fed
-        ensures { feeding self.old piece.now ≡ record { fed = result; left = self.new } }
+        ensures { feed_step self.old piece.now ≡ record { fed = result; left = self.new } }
     {
         self.lent = None;
         let start = idle_flags(self.is_fresh(), piece);
