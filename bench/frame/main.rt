@@ -56,12 +56,13 @@ fn feed_all(deframer: &mut Deframer, stream: &[u8]) -> u64 {
     let mut at = 0;
     let mut frames: u64 = 0;
     for _ in 0..stream.len() {
-        if at < stream.len() {
-            let fed = deframer.feed(&stream[at..]);
-            at += fed.used;
-            if fed.got == Got::Frame {
-                frames = frames.wrapping_add(1);
-            }
+        if at >= stream.len() {
+            return frames;
+        }
+        let fed = deframer.feed(&stream[at..]);
+        at += fed.used;
+        if fed.got == Got::Frame {
+            frames = frames.wrapping_add(1);
         }
     }
     frames

@@ -1,10 +1,12 @@
 -- Octets as they are spelled and read.
-use Rattle.std.proofs.Common.{◌≡◌, ◌==◌, if◌then◌else◌, ℕ, ◌+◌, ◌*◌, ◌/◌, ◌%◌, ◌<◌, ◌≤◌, Bool, true, false, List, [], ◌∷◌, ◌++◌, length, get_or, take, drop, set, refl, ap, sym, ◌∙◌, arith, bit_xor, append_assoc, length-set, length-append, append-nil, inl, inr, subst}
+use Rattle.std.proofs.Common.{◌≡◌, ◌==◌, if◌then◌else◌, ℕ, ◌+◌, ◌*◌, ◌/◌, ◌%◌, ◌<◌, ◌≤◌, Bool, true, false, List, [], ◌∷◌, ◌++◌, length, get_or, take, drop, set, refl, ap, sym, ◌∙◌, arith, bit_xor, append_assoc, length-set, length-append, append-nil, inl, inr, subst, ◌||◌, ◌&&◌, nat_lt}
 use Rattle.ppp_frame.proofs.XorLemmas.{xor_again}
 use Rattle.std.specs.List.{list_any}
-use Rattle.std.proofs.lemmas.Bool.{or_parts, eqb-true, eqb-false, ne_eqb, true≢false}
+use Rattle.std.specs.Int.{bit_at}
+use Rattle.std.proofs.lemmas.Nat.Bits.{bit_at-zero}
+use Rattle.std.proofs.lemmas.Bool.{and_left, and_right, or_from, or_parts, eqb-true, eqb-false, ne_eqb, true≢false}
 use Rattle.std.proofs.lemmas.List.{take-append-drop, take_more_set, take-set, take_more, flat_map_more}
-use Rattle.ppp_frame.specs.Escapes.{Escapes, HasNoFlag, is_escape, StandsFor, must_escape, spelled, stuffed, opens, read_octet, unstuffed, escaped_after}
+use Rattle.ppp_frame.specs.Escapes.{Escapes, HasNoFlag, is_escape, is_special, StandsFor, must_escape, spelled, stuffed, opens, read_octet, unstuffed, escaped_after}
 use Rattle.ppp_frame.specs.Spelling.{pair_of}
 use Rattle.ppp_frame.specs.Fcs.{fcs_of, fcs_octets, checked}
 use Rattle.std.proofs.lemmas.List.Concat.{flat_map-append}
@@ -203,3 +205,32 @@ unstuffed_parts escaped n run block more front back =
 pub escaped_parts : (escaped : Bool) (n : ℕ) (run block more : List ℕ) → block ≡ take n run → more ≡ drop n run → escaped_after escaped run ≡ escaped_after (escaped_after escaped block) more
 escaped_parts escaped n run block more front back =
     ap (escaped_after escaped) (whole_again n run block more front back) ∙ escaped_after-append escaped block more
+
+-- ---- octets that stand for themselves
+
+plain_octet_by : (map x : ℕ) → is_special (if map == 0 then 0 else 0x20) x ≡ false → must_escape map x ≡ false
+unfolding must_escape
+plain_octet_by map x none = go (map == 0) refl
+  where
+    parts : ((x == 0x7d || x == 0x7e) ≡ false) × (nat_lt x (if map == 0 then 0 else 0x20) ≡ false)
+    parts = or_parts _ _ none
+
+    go : (b : Bool) → (map == 0) ≡ b → must_escape map x ≡ false
+    go true e =
+        let bit : (bit_at map x == 1) ≡ false = ap (λ m. bit_at m x == 1) (eqb-true map 0 e) ∙ ap (λ b. b == 1) (bit_at-zero x) in
+        or_from (x == 0x7d || x == 0x7e) (nat_lt x 0x20 && bit_at map x == 1) parts.0 (and_right _ _ bit)
+    go false e =
+        let above : nat_lt x 0x20 ≡ false = rw e at parts.1 in
+        or_from (x == 0x7d || x == 0x7e) (nat_lt x 0x20 && bit_at map x == 1) parts.0 (and_left _ _ above)
+
+pub stuffed_plain : (map : ℕ) (xs : List ℕ) → list_any (is_special (if map == 0 then 0 else 0x20)) xs ≡ false → stuffed map xs ≡ xs
+stuffed_plain map [] none = refl
+stuffed_plain map (x ∷ xs) none =
+    let parts : (is_special (if map == 0 then 0 else 0x20) x ≡ false) × (list_any (is_special (if map == 0 then 0 else 0x20)) xs ≡ false) =
+    or_parts _ _ none in
+    let plain = plain_octet_by map x parts.0 in
+    rw plain (ap (λ ys. x ∷ ys) (stuffed_plain map xs parts.1))
+
+pub stuffed_parts : (map n : ℕ) (octets block more : List ℕ) → block ≡ take n octets → more ≡ drop n octets → stuffed map octets ≡ stuffed map block ++ stuffed map more
+stuffed_parts map n octets block more front back =
+    ap (stuffed map) (whole_again n octets block more front back) ∙ flat_map-append (spelled map) block more

@@ -18,12 +18,12 @@ use Rattle.ppp_frame.proofs.HeaderLemmas.{headed_read, one_read, read_headed, se
 length-checked : (octets : List ℕ) → length (checked octets) ≡ length octets + 2
 length-checked octets = length-append octets (fcs_octets octets)
 
-before_checked : (octets : List ℕ) → before_check (checked octets) ≡ octets
+pub before_checked : (octets : List ℕ) → before_check (checked octets) ≡ octets
 before_checked octets =
     let long = length-checked octets in
     take_at octets (fcs_octets octets) (length (checked octets) - 2) (omega arith)
 
-checked_is : (octets : List ℕ) → is_checked (checked octets) ≡ true
+pub checked_is : (octets : List ℕ) → is_checked (checked octets) ≡ true
 unfolding is_checked
 checked_is octets =
     let long = length-checked octets in
@@ -31,7 +31,7 @@ checked_is octets =
     drop_at octets (fcs_octets octets) (length (checked octets) - 2) (omega arith) in
     (bytes_eq-Decides _ _).1 (last ∙ ap fcs_octets (sym (before_checked octets)))
 
-is_checked_parts : (plain : List ℕ) → is_checked plain ≡ true → checked (before_check plain) ≡ plain
+pub is_checked_parts : (plain : List ℕ) → is_checked plain ≡ true → checked (before_check plain) ≡ plain
 unfolding is_checked
 is_checked_parts plain is =
     ap (λ xs. before_check plain ++ xs) (sym ((bytes_eq-Decides _ _).0 is))

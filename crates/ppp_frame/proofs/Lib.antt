@@ -1,6 +1,7 @@
+pub mod DeframerLemmas
+pub mod DiscardLemmas
 pub mod EscapesLemmas
 pub mod FcsLemmas
-pub mod FeedingLemmas
 pub mod FrameLemmas
 pub mod HeaderLemmas
 pub mod StandardFacts

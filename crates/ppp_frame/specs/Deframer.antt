@@ -14,7 +14,7 @@ use Rattle.ppp_frame.specs.declared.why.Why.{Why}
 use Rattle.ppp_frame.specs.Verdict.{Reader, Verdict, Discarded, Taken, answer_of, frame_in, got_of}
 
 -- how it reads, what stands since the last flag, and the frame that it lends
-pub record Deframing : Type 0 where
+pub record DeframerState : Type 0 where
   pub reader : Reader
   pub standing : Standing
   pub frame : Option Read
@@ -24,7 +24,7 @@ pub record Deframing : Type 0 where
 abbrev pub lent_seen : List ℕ → Lent → Read
 lent_seen room l = reads l.protocol (take (l.end - l.start) (drop l.start room))
 
-abbrev pub deframer_seen : Inside → Deframing
+abbrev pub deframer_seen : Inside → DeframerState
 deframer_seen d = record {
   reader = record { limit = d.limit; ac = d.ac; pf = d.pf };
   standing = record { plain = take d.held d.room.items; past = d.past; escaped = d.escaped };
@@ -58,57 +58,57 @@ flag_at s piece = idle s piece + run_length s piece
 abbrev pub run_in : Standing → List ℕ → List ℕ
 run_in s piece = take (run_length s piece) (drop (idle s piece) piece)
 
-pub record Feeding : Type 0 where
+pub record FeedStep : Type 0 where
   pub fed : Fed
-  pub left : Deframing
+  pub left : DeframerState
 
 -- nothing ended: all is taken in
-abbrev pub goes_on : Deframing → Standing → ℕ → Feeding
+abbrev pub goes_on : DeframerState → Standing → ℕ → FeedStep
 goes_on d s size = record {
   fed = record { used = size; got = More };
   left = record { reader = d.reader; standing = s; frame = None };
 }
 
 -- a piece ended: it is judged, and the deframer stands as after a flag
-abbrev pub ends_by : Deframing → Verdict → ℕ → Feeding
+abbrev pub ends_by : DeframerState → Verdict → ℕ → FeedStep
 ends_by d verdict used = record {
   fed = record { used = used; got = got_of verdict };
   left = record { reader = d.reader; standing = fresh; frame = frame_in verdict };
 }
 
-unfoldable pub feeding : Deframing → List ℕ → Feeding
-feeding d piece =
-    if flag_at d.standing piece == length piece
-    then goes_on d (after d.reader.limit d.standing (run_in d.standing piece)) (length piece)
-    else ends_by d (verdict_at d.reader (after d.reader.limit d.standing (run_in d.standing piece))) (flag_at d.standing piece + 1)
+unfoldable pub feed_step : DeframerState → List ℕ → FeedStep
+feed_step d piece =
+    let s = after d.reader.limit d.standing (run_in d.standing piece) in
+    if flag_at d.standing piece == length piece then goes_on d s (length piece)
+    else ends_by d (verdict_at d.reader s) (flag_at d.standing piece + 1)
 
 -- ---- one call, seen from the whole stream
 
 -- the deframer stands where it stands after this stream
-abbrev pub Stands : Deframing → List ℕ → Type 0
+abbrev pub Stands : DeframerState → List ℕ → Type 0
 Stands d stream = d.standing ≡ standing_of d.reader.limit (unfinished stream)
 
 -- no piece ended
-pub record GoesOn (before piece : List ℕ) (used : ℕ) (new : Deframing) : Type 0 where
+pub record GoesOn (before piece : List ℕ) (used : ℕ) (new : DeframerState) : Type 0 where
   pub all : used ≡ length piece
   pub none : pieces (before ++ piece) ≡ pieces before
   pub frame : new.frame ≡ None
 
 -- one piece ended, at the last octet that was used, and this is the answer to it
-pub record EndsOne (old : Deframing) (before piece : List ℕ) (fed : Fed) (new : Deframing) : Type 0 where
+pub record EndsOne (old : DeframerState) (before piece : List ℕ) (fed : Fed) (new : DeframerState) : Type 0 where
   pub ended : List ℕ
   pub one : pieces (before ++ take fed.used piece) ≡ pieces before ++ ended ∷ []
   pub whole : unfinished (before ++ take fed.used piece) ≡ []
   pub got : fed.got ≡ got_of (answer_of old.reader ended)
   pub frame : new.frame ≡ frame_in (answer_of old.reader ended)
 
-abbrev pub AnswersGot : Got → Deframing → List ℕ → List ℕ → Fed → Deframing → Type 0
+abbrev pub AnswersGot : Got → DeframerState → List ℕ → List ℕ → Fed → DeframerState → Type 0
 AnswersGot More old before piece fed new = GoesOn before piece fed.used new
 AnswersGot Frame old before piece fed new = EndsOne old before piece fed new
 AnswersGot (Discard why) old before piece fed new = EndsOne old before piece fed new
 
 -- the answer to a piece of the stream, after what came before it
-abbrev pub Answers : Deframing → List ℕ → List ℕ → Fed → Deframing → Type 0
+abbrev pub Answers : DeframerState → List ℕ → List ℕ → Fed → DeframerState → Type 0
 Answers old before piece fed new = AnswersGot fed.got old before piece fed new
 
 -- the verdict of a judge over these octets

@@ -25,6 +25,10 @@ HasNoFlag piece = AllByRecursion (λ x. x ≢ FLAG) piece
 unfoldable pub must_escape : ℕ → ℕ → Bool
 must_escape map x = x == ESCAPE || x == FLAG || (nat_lt x 0x20 && bit_at map x == 1)
 
+-- flag, escape, or lower than this
+abbrev pub is_special : ℕ → ℕ → Bool
+is_special low x = x == ESCAPE || x == FLAG || nat_lt x low
+
 abbrev pub spelled : ℕ → ℕ → List ℕ
 spelled map x = if must_escape map x then ESCAPE ∷ bit_xor x TOGGLE ∷ [] else x ∷ []
 

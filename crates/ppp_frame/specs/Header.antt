@@ -18,7 +18,8 @@ Addressed ac rest octets =
 -- octet is a protocol too.
 abbrev pub Numbered : Bool → ℕ → List ℕ → List ℕ → Type 0
 Numbered pf protocol info octets =
-    ((high : ℕ) × (low : ℕ) × (octets ≡ high ∷ low ∷ info) × (protocol ≡ high * 256 + low) × (pf ≡ true → high % 2 ≡ 0))
+    ((high : ℕ) × (low : ℕ) × (octets ≡ high ∷ low ∷ info) × (protocol ≡ high * 256 + low)
+    × (pf ≡ true → high % 2 ≡ 0))
     ⊎ ((pf ≡ true) × (octets ≡ protocol ∷ info) × (protocol % 2 ≡ 1))
 
 -- these octets are the protocol and the information, with the header before them

@@ -1,4 +1,5 @@
 pub mod Deframer
+pub mod Discard
 pub mod Escapes
 pub mod Fcs
 pub mod Frame

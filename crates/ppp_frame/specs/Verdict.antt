@@ -14,6 +14,10 @@ pub record Reader : Type 0 where
   pub ac : Bool
   pub pf : Bool
 
+-- whole headers alone
+abbrev pub whole_headers : ℕ → Reader
+whole_headers limit = record { limit = limit; ac = false; pf = false }
+
 pub data Verdict : Type 0 where
   Discarded : (why : Why) → Verdict
   Taken : (read : Read) → Verdict

@@ -1,14 +1,14 @@
 //! What cuts a stream of octets into frames.
 
-ghost use Rattle.std.specs.Prelude.{◌≡◌, ◌≢◌, ◌+◌, ◌<◌, ◌≤◌, ◌++◌, ℕ, [], List, length, take, Some, None, false, IfOk, IsSome, IsTrue, ◌↔◌, if◌then◌else◌, nat_le};
+ghost use Rattle.std.specs.Prelude.{◌≡◌, ◌≢◌, ◌+◌, ◌<◌, ◌≤◌, ◌++◌, ℕ, [], List, length, take, Some, None, IfOk, IsSome, IsTrue, ◌↔◌, if◌then◌else◌, nat_le};
 ghost use Rattle.std.specs.List.{prefix_len, position_or_len};
-ghost use Rattle.ppp_frame.specs.Deframer.{Answers, LiesWithin, Stands, feeding, verdict_seen};
+ghost use Rattle.ppp_frame.specs.Deframer.{Answers, LiesWithin, Stands, feed_step, verdict_seen};
 ghost use Rattle.ppp_frame.specs.Escapes.{escaped_after, unstuffed};
 ghost use Rattle.ppp_frame.specs.Fcs.{fcs_run};
 ghost use Rattle.ppp_frame.specs.FrameRef.{frame_ref_seen};
 ghost use Rattle.ppp_frame.specs.Standing.{after, fresh, is_fresh as is_fresh_standing, verdict_at};
 ghost use Rattle.ppp_frame.specs.Stream.{is_flag};
-ghost use Rattle.ppp_frame.specs.Verdict.{frame_in, got_of, verdict_of};
+ghost use Rattle.ppp_frame.specs.Verdict.{frame_in, got_of, verdict_of, whole_headers};
 
 use crate::check_sequence::{GOOD, START, after_octets};
 use crate::escapes::{FLAG, ends_escaped, plain_len, unstuff};
@@ -46,9 +46,9 @@ struct Lent {
 }
 
 impl Model for Deframer {
-    ghost use Rattle.ppp_frame.specs.Deframer.{Deframing, deframer_seen, IsDeframer};
+    ghost use Rattle.ppp_frame.specs.Deframer.{DeframerState, deframer_seen, IsDeframer};
 
-    ghost Value = { Deframing };
+    ghost Value = { DeframerState };
 
     ghost view = { deframer_seen };
 
@@ -60,7 +60,7 @@ impl Deframer {
     /// and check sequence. It takes one octet more than the limit, and is refused for want of memory alone.
     pub fn new(alloc: Global, limit: usize) -> Result<Deframer, Memory>
         ensures stands { IfOk result (λ d. Stands d []) }
-        ensures reader { IfOk result (λ d. d.reader ≡ record { limit = limit; ac = false; pf = false }) }
+        ensures reader { IfOk result (λ d. d.reader ≡ whole_headers limit) }
         ensures frame { IfOk result (λ d. d.frame ≡ None) }
     {
         let Some(size) = limit.checked_add(1) else {
@@ -123,10 +123,10 @@ impl Deframer {
     /// piece that a flag ended is judged by what [`set_short`](Deframer::set_short) set last, and the deframer then stands as
     /// after a flag. The frame that was lent before is taken back. It takes no memory.
     ///
-    /// `stands` and `answers` speak of the whole stream so far, so that the answers are the same in any cutting; `feeding` is
+    /// `stands` and `answers` speak of the whole stream so far, so that the answers are the same in any cutting; `step` is
     /// the same as a function of what stood before the call.
     pub fn feed(&mut self, piece: &[u8]) -> Fed
-        ensures feeding { feeding self.old piece.now ≡ record { fed = result; left = self.new } }
+        ensures step { feed_step self.old piece.now ≡ record { fed = result; left = self.new } }
         ensures stands { (before : List ℕ) → Stands self.old before
             → Stands self.new (before ++ take result.used piece.now) }
         ensures answers { (before : List ℕ) → Stands self.old before
@@ -140,7 +140,7 @@ impl Deframer {
 
     #[inline]
     fn feed_once(&mut self, piece: &[u8]) -> Fed
-        ensures { feeding self.old piece.now ≡ record { fed = result; left = self.new } }
+        ensures { feed_step self.old piece.now ≡ record { fed = result; left = self.new } }
     {
         self.lent = None;
         let start = idle_flags(self.is_fresh(), piece);

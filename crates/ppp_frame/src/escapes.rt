@@ -2,7 +2,7 @@
 
 ghost use Rattle.std.specs.Prelude.{◌≡◌, ◌+◌, ◌*◌, ◌≤◌, ◌<◌, ◌++◌, ◌%◌, ◌==◌, if◌then◌else◌, length, take, bit_xor};
 ghost use Rattle.std.specs.List.{list_any};
-ghost use Rattle.ppp_frame.specs.Escapes.{escaped_after, is_escape, must_escape, opens as opens_escape, stuffed, unstuffed};
+ghost use Rattle.ppp_frame.specs.Escapes.{escaped_after, is_escape, is_special, must_escape, opens as opens_escape, stuffed, unstuffed};
 
 use crate::spelling::Spelling;
 
@@ -14,6 +14,9 @@ pub const ESCAPE: u8 = 0x7d;
 
 /// What is added to an octet behind an escape, bit by bit.
 pub const TOGGLE: u8 = 0x20;
+
+/// How many octets are looked at together, and copied where each of them stands for itself.
+const BLOCK: usize = 32;
 
 /// A sender escapes this octet under this map: a flag, an escape, or one below 20 whose bit the map has.
 #[tactic(auto, unfolding(crate::specs::Escapes::must_escape))]
@@ -28,7 +31,41 @@ pub(crate) fn stuff(room: &mut [u8], at: usize, spelling: &Spelling, octets: &[u
     requires { at + 2 * length octets.now ≤ length room.old }
     ensures end { result ≡ at + length (stuffed spelling.now.map octets.now) }
     ensures within { result ≤ at + 2 * length octets.now }
-    ensures written { take result room.new ≡ take at room.old ++ stuffed spelling.now.map octets.now }
+    ensures written { take result room.new
+        ≡ take at room.old ++ stuffed spelling.now.map octets.now }
+{
+    let mut end = at;
+    let mut rest = octets;
+    'whole: while rest.len() >= BLOCK {
+        let (block, more) = rest.split_at(BLOCK);
+        end = stuff_block(room, end, spelling, block);
+        rest = more;
+    }
+    stuff_each(room, end, spelling, rest)
+}
+
+#[inline(always)]
+fn stuff_block(room: &mut [u8], at: usize, spelling: &Spelling, block: &[u8]) -> usize
+    requires { at + 2 * length block.now ≤ length room.old }
+    ensures end { result ≡ at + length (stuffed spelling.now.map block.now) }
+    ensures within { result ≤ at + 2 * length block.now }
+    ensures written { take result room.new
+        ≡ take at room.old ++ stuffed spelling.now.map block.now }
+{
+    if has_special(lowest_plain(spelling.map), block) {
+        return stuff_each(room, at, spelling, block);
+    }
+    copy_block(room, at, block);
+    at + block.len()
+}
+
+#[inline(always)]
+fn stuff_each(room: &mut [u8], at: usize, spelling: &Spelling, octets: &[u8]) -> usize
+    requires { at + 2 * length octets.now ≤ length room.old }
+    ensures end { result ≡ at + length (stuffed spelling.now.map octets.now) }
+    ensures within { result ≤ at + 2 * length octets.now }
+    ensures written { take result room.new
+        ≡ take at room.old ++ stuffed spelling.now.map octets.now }
 {
     let mut end = at;
     for octet in octets {
@@ -40,6 +77,25 @@ pub(crate) fn stuff(room: &mut [u8], at: usize, spelling: &Spelling, octets: &[u
     end
 }
 
+/// The lowest octet that a map leaves alone for certain: 0 where it has no bit.
+fn lowest_plain(map: u32) -> u8
+    ensures { result ≡ (if map == 0 then 0 else 0x20) }
+{
+    if map == 0 { 0 } else { 0x20 }
+}
+
+/// One of the octets is a flag, an escape, or lower than this.
+#[inline(always)]
+fn has_special(low: u8, block: &[u8]) -> bool
+    ensures { result ≡ list_any (is_special low) block.now }
+{
+    let mut found = false;
+    for octet in block {
+        found |= (*octet == ESCAPE) | (*octet == FLAG) | (*octet < low);
+    }
+    found
+}
+
 /// How many octets of a pair stand in the frame.
 #[inline(always)]
 fn width(pair: u16) -> usize
@@ -47,9 +103,6 @@ fn width(pair: u16) -> usize
 {
     if pair % 256 == ESCAPE as u16 { 2 } else { 1 }
 }
-
-/// How many octets are looked at together, and copied where none of them stands for another.
-const BLOCK: usize = 32;
 
 /// Writes what is read of `run` into `room` from `at` on, where the octet before it was an escape or not. It answers where
 /// that ends, and whether the last octet was an escape.
@@ -75,7 +128,8 @@ fn unstuff_block(room: &mut [u8], at: usize, escaped: bool, block: &[u8]) -> (us
     requires { at + length (unstuffed escaped block.now) < length room.old }
     ensures end { result.0 ≡ at + length (unstuffed escaped block.now) }
     ensures escaped { result.1 ≡ escaped_after escaped block.now }
-    ensures written { take result.0 room.new ≡ take at room.old ++ unstuffed escaped block.now }
+    ensures written { take result.0 room.new
+        ≡ take at room.old ++ unstuffed escaped block.now }
 {
     if escaped || has_escape(block) {
         return unstuff_each(room, at, escaped, block);

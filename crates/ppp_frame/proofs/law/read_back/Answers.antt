@@ -1,5 +1,6 @@
 use Rattle.std.proofs.Common.{subst, sym, [], List, ℕ}
 use Rattle.ppp_frame.specs.Frame.{Framed, inside}
+use Rattle.ppp_frame.proofs.DiscardLemmas.{cause_is_discard, discard_has_cause}
 use Rattle.ppp_frame.proofs.FrameLemmas.{answered_framed, framed_answered, framed_once, sent_framed}
 use Rattle.ppp_frame.proofs.HeaderLemmas.{headed_read, read_headed}
 use Rattle.ppp_frame.proofs.StreamLemmas.{pieces_flagless}
@@ -16,6 +17,8 @@ returns c = record {
       );
   answered = λ reader protocol info piece none.
       (answered_framed reader protocol info piece none, framed_answered reader protocol info piece);
+  discarded = λ reader piece why.
+      (discard_has_cause reader piece why, cause_is_discard reader piece why);
   header = λ ac pf protocol info octets.
       (read_headed ac pf protocol info octets, headed_read ac pf protocol info octets);
   pieces = λ stream. pieces_flagless [] stream tt;

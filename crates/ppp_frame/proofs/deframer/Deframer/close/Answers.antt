@@ -1,5 +1,5 @@
 use Rattle.std.proofs.Common.{◌≡◌, Ok, Option, Some, take, length, ap, sym, ◌∙◌, arith, length-take, ℕ}
-use Rattle.ppp_frame.specs.Deframer.{Deframing, LiesWithin, lent_seen, verdict_seen}
+use Rattle.ppp_frame.specs.Deframer.{DeframerState, LiesWithin, lent_seen, verdict_seen}
 use Rattle.ppp_frame.specs.Header.{Read}
 use Rattle.ppp_frame.specs.Standing.{fresh, verdict_at}
 use Rattle.ppp_frame.specs.Verdict.{Reader, frame_in, verdict_of}
@@ -12,7 +12,7 @@ returns-in-Ok-clause-left c =
     let d = c.self.inside in
     let l = c.in-Ok.lent in
     let r : Reader = record { limit = d.limit; ac = d.ac; pf = d.pf } in
-    let shown : Option Read → Deframing = λ f. record { reader = r; standing = fresh; frame = f } in
+    let shown : Option Read → DeframerState = λ f. record { reader = r; standing = fresh; frame = f } in
     let frame : Some (lent_seen d.room.items l) ≡ frame_in (verdict_at r (record { plain = take d.held d.room.items; past = d.past; escaped = d.escaped })) =
     elim c.if-self.branch [
       | then-self w ↦ absurd (cc (w.judged-is, c.in-Ok.is))

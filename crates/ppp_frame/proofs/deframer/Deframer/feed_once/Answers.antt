@@ -1,6 +1,6 @@
 use Rattle.std.proofs.Common.{arith}
 use Rattle.ppp_frame.specs.Deframer.{deframer_seen}
-use Rattle.ppp_frame.proofs.FeedingLemmas.{fed_more, fed_ends}
+use Rattle.ppp_frame.proofs.DeframerLemmas.{fed_more, fed_ends}
 use Rattle.ppp_frame.proofs.deframer.Deframer.feed_once.Goals as goal
 
 pub returns-then-used-piece : goal.returns-then-used-piece

@@ -3,7 +3,7 @@ use Rattle.std.specs.Option.{option_map}
 use Rattle.std.specs.Vec.{with_items}
 use Rattle.std.proofs.lemmas.Bool.{leb-true, leb-false, both_ways}
 use Rattle.std.proofs.lemmas.List.{with_items_is, length-take-le}
-use Rattle.ppp_frame.specs.Deframer.{Deframing, lent_seen}
+use Rattle.ppp_frame.specs.Deframer.{DeframerState, lent_seen}
 use Rattle.ppp_frame.specs.Escapes.{unstuffed}
 use Rattle.ppp_frame.specs.Fcs.{fcs_run}
 use Rattle.ppp_frame.specs.Standing.{Standing}
@@ -15,7 +15,7 @@ use Rattle.ppp_frame.proofs.deframer.Deframer.take_in.Goals as goal
 pub returns-then-self : goal.returns-then-self
 returns-then-self c =
     let d = c.self.inside in
-    let shown : Standing → Deframing = λ s. record {
+    let shown : Standing → DeframerState = λ s. record {
       reader = record { limit = d.limit; ac = d.ac; pf = d.pf };
       standing = s;
       frame = option_map (lent_seen d.room.items) d.lent;
@@ -28,7 +28,7 @@ returns-then-self c =
 pub returns-else-fits : goal.returns-else-fits
 returns-else-fits c =
     let d = c.self.inside in
-    let shown : Standing → Deframing = λ s. record {
+    let shown : Standing → DeframerState = λ s. record {
       reader = record { limit = d.limit; ac = d.ac; pf = d.pf };
       standing = s;
       frame = option_map (lent_seen d.room.items) d.lent;
@@ -54,7 +54,7 @@ returns-then-fits c =
     rw c.deref_mut.ensures.value at c.keep.ensures.kept in
     let standing = taken_whole d.limit (take d.held d.room.items) c.args.run.now (take c.keep.result.0 (with_items d.room new).items)
     d.past d.escaped c.keep.result.1 c.if-self.false size' (ap (take c.keep.result.0) items ∙ kept) c.keep.ensures.escaped in
-    let none : option_map (lent_seen d.room.items) d.lent ≡ None = ap (λ (x : Deframing). x.frame) c.self.view_is ∙ c.requires in
+    let none : option_map (lent_seen d.room.items) d.lent ≡ None = ap (λ (x : DeframerState). x.frame) c.self.view_is ∙ c.requires in
     let frame = none_lent d.room.items (with_items d.room new).items d.lent none in
     rw (← c.self.view_is) (λ i. record {
       reader = record { limit = d.limit; ac = d.ac; pf = d.pf };

@@ -9,20 +9,20 @@ use Rattle.std.proofs.lemmas.List.Folds.{length-prefix_len}
 use Rattle.ppp_frame.specs.declared.fed.Fed.{Fed}
 use Rattle.ppp_frame.specs.declared.fed.Got.{Got}
 use Rattle.ppp_frame.specs.declared.fed.Got.TheVariants.{More}
-use Rattle.ppp_frame.specs.Deframer.{Answers, AnswersGot, Deframing, EndsOne, Feeding, Stands, ends_by, feeding, flag_at, goes_on, idle, run_in, run_length}
+use Rattle.ppp_frame.specs.Deframer.{Answers, AnswersGot, DeframerState, EndsOne, FeedStep, Stands, ends_by, feed_step, flag_at, goes_on, idle, run_in, run_length}
 use Rattle.ppp_frame.specs.Standing.{Standing, after, fresh, is_fresh, standing_of, verdict_at}
 use Rattle.ppp_frame.specs.Stream.{is_flag, pieces, pieces_from, unfinished, unfinished_from}
 use Rattle.ppp_frame.specs.Verdict.{Reader, Verdict, Discarded, Taken, answer_of, frame_in, got_of}
 use Rattle.ppp_frame.proofs.StandingLemmas.{after-append, fresh_none, fresh_start, verdict_is}
 use Rattle.ppp_frame.proofs.StreamLemmas.{pieces-append, unfinished-append, idle_pieces, idle_unfinished, run_pieces, run_unfinished, flag_pieces, flag_unfinished}
 
-pub feeding_more : (d : Deframing) (piece : List ℕ) → flag_at d.standing piece ≡ length piece → feeding d piece ≡ goes_on d (after d.reader.limit d.standing (run_in d.standing piece)) (length piece)
-unfolding feeding
-feeding_more d piece all = rw (eq-eqb _ _ all)
+pub step_more : (d : DeframerState) (piece : List ℕ) → flag_at d.standing piece ≡ length piece → feed_step d piece ≡ goes_on d (after d.reader.limit d.standing (run_in d.standing piece)) (length piece)
+unfolding feed_step
+step_more d piece all = rw (eq-eqb _ _ all)
 
-pub feeding_ends : (d : Deframing) (piece : List ℕ) → flag_at d.standing piece < length piece → feeding d piece ≡ ends_by d (verdict_at d.reader (after d.reader.limit d.standing (run_in d.standing piece))) (flag_at d.standing piece + 1)
-unfolding feeding
-feeding_ends d piece within =
+pub step_ends : (d : DeframerState) (piece : List ℕ) → flag_at d.standing piece < length piece → feed_step d piece ≡ ends_by d (verdict_at d.reader (after d.reader.limit d.standing (run_in d.standing piece))) (flag_at d.standing piece + 1)
+unfolding feed_step
+step_ends d piece within =
     rw (ne_eqb (flag_at d.standing piece) (length piece) (λ same. absurd (omega arith)))
 
 -- what stands, and the octets that it came from: the flags in front of the piece change neither
@@ -139,12 +139,12 @@ flag_at-le s piece =
     idle-le false = omega arith
 
 -- what a call leaves and answers, of what it found
-abbrev pub FeedingKeeps : Deframing → List ℕ → Feeding → Type 0
-FeedingKeeps d piece f = ((before : List ℕ) → Stands d before → Stands f.left (before ++ take f.fed.used piece))
+abbrev pub StepKeeps : DeframerState → List ℕ → FeedStep → Type 0
+StepKeeps d piece f = ((before : List ℕ) → Stands d before → Stands f.left (before ++ take f.fed.used piece))
     × ((before : List ℕ) → Stands d before → Answers d before piece f.fed f.left)
     × (f.fed.used ≤ length piece) × (0 < length piece → 0 < f.fed.used) × (f.left.reader ≡ d.reader)
 
-goes_on_keeps : (d : Deframing) (piece : List ℕ) → flag_at d.standing piece ≡ length piece → FeedingKeeps d piece (goes_on d (after d.reader.limit d.standing (run_in d.standing piece)) (length piece))
+goes_on_keeps : (d : DeframerState) (piece : List ℕ) → flag_at d.standing piece ≡ length piece → StepKeeps d piece (goes_on d (after d.reader.limit d.standing (run_in d.standing piece)) (length piece))
 goes_on_keeps d piece all =
     let whole : take (length piece) piece ≡ take (flag_at d.standing piece) piece = ap (λ n. take n piece) (sym all) in (
       λ before stands.
@@ -164,11 +164,11 @@ goes_on_keeps d piece all =
     )
 
 -- an answer that something ended, as a frame or as a discard
-answers_end : (v : Verdict) (old new : Deframing) (before piece : List ℕ) (fed : Fed) → EndsOne old before piece fed new → AnswersGot (got_of v) old before piece fed new
+answers_end : (v : Verdict) (old new : DeframerState) (before piece : List ℕ) (fed : Fed) → EndsOne old before piece fed new → AnswersGot (got_of v) old before piece fed new
 answers_end (Discarded why) old new before piece fed one = one
 answers_end (Taken read) old new before piece fed one = one
 
-ends_by_keeps : (d : Deframing) (piece : List ℕ) → flag_at d.standing piece < length piece → FeedingKeeps d piece (ends_by d (verdict_at d.reader (after d.reader.limit d.standing (run_in d.standing piece))) (flag_at d.standing piece + 1))
+ends_by_keeps : (d : DeframerState) (piece : List ℕ) → flag_at d.standing piece < length piece → StepKeeps d piece (ends_by d (verdict_at d.reader (after d.reader.limit d.standing (run_in d.standing piece))) (flag_at d.standing piece + 1))
 ends_by_keeps d piece within =
     let limit = d.reader.limit in
     let s = d.standing in (
@@ -187,33 +187,33 @@ ends_by_keeps d piece within =
       refl,
     )
 
-pub feeding_keeps : (d : Deframing) (piece : List ℕ) → FeedingKeeps d piece (feeding d piece)
-feeding_keeps d piece = go (cases_order (flag_at d.standing piece) (length piece))
+pub step_keeps : (d : DeframerState) (piece : List ℕ) → StepKeeps d piece (feed_step d piece)
+step_keeps d piece = go (cases_order (flag_at d.standing piece) (length piece))
   where
-    go : (flag_at d.standing piece ≡ length piece) ⊎ ((flag_at d.standing piece < length piece) ⊎ (length piece < flag_at d.standing piece)) → FeedingKeeps d piece (feeding d piece)
-    go (inl all) = subst (FeedingKeeps d piece) (sym (feeding_more d piece all)) (goes_on_keeps d piece all)
-    go (inr (inl within)) = subst (FeedingKeeps d piece) (sym (feeding_ends d piece within)) (ends_by_keeps d piece within)
+    go : (flag_at d.standing piece ≡ length piece) ⊎ ((flag_at d.standing piece < length piece) ⊎ (length piece < flag_at d.standing piece)) → StepKeeps d piece (feed_step d piece)
+    go (inl all) = subst (StepKeeps d piece) (sym (step_more d piece all)) (goes_on_keeps d piece all)
+    go (inr (inl within)) = subst (StepKeeps d piece) (sym (step_ends d piece within)) (ends_by_keeps d piece within)
     go (inr (inr beyond)) = let most = flag_at-le d.standing piece in absurd (omega arith)
 
--- ---- what the code does is `feeding`
+-- ---- what the code does is `feed_step`
 
-pub fed_more : (d new : Deframing) (piece rest run : List ℕ) (fresh_one : Bool) (start size : ℕ) → fresh_one ≡ is_fresh d.standing → start ≡ (if fresh_one then prefix_len is_flag piece else 0) → rest ≡ drop start piece → size ≡ position_or_len is_flag rest → run ≡ take size rest → new ≡ record { reader = d.reader; standing = after d.reader.limit d.standing run; frame = None } → start + size ≡ length piece → feeding d piece ≡ record { fed = record { used = start + size; got = More }; left = new }
+pub fed_more : (d new : DeframerState) (piece rest run : List ℕ) (fresh_one : Bool) (start size : ℕ) → fresh_one ≡ is_fresh d.standing → start ≡ (if fresh_one then prefix_len is_flag piece else 0) → rest ≡ drop start piece → size ≡ position_or_len is_flag rest → run ≡ take size rest → new ≡ record { reader = d.reader; standing = after d.reader.limit d.standing run; frame = None } → start + size ≡ length piece → feed_step d piece ≡ record { fed = record { used = start + size; got = More }; left = new }
 fed_more d new piece rest run fresh_one start size fresh_is start_is rest_is size_is run_is new_is all =
     let at : flag_at d.standing piece ≡ start + size = cc in
     let run_same : run_in d.standing piece ≡ run = cc in
-    feeding_more d piece (at ∙ all)
+    step_more d piece (at ∙ all)
     ∙ ap (λ r. goes_on d (after d.reader.limit d.standing r) (length piece)) run_same
     ∙ (λ i. record { fed = record { used = sym all i; got = More }; left = sym new_is i })
 
-pub fed_ends : (d mid new : Deframing) (piece rest run : List ℕ) (got : Got) (fresh_one : Bool) (start size : ℕ) → fresh_one ≡ is_fresh d.standing → start ≡ (if fresh_one then prefix_len is_flag piece else 0) → rest ≡ drop start piece → size ≡ position_or_len is_flag rest → run ≡ take size rest → mid ≡ record { reader = d.reader; standing = after d.reader.limit d.standing run; frame = None } → got ≡ got_of (verdict_at mid.reader mid.standing) → new ≡ record { reader = mid.reader; standing = fresh; frame = frame_in (verdict_at mid.reader mid.standing) } → start + size < length piece → feeding d piece ≡ record { fed = record { used = start + size + 1; got = got }; left = new }
+pub fed_ends : (d mid new : DeframerState) (piece rest run : List ℕ) (got : Got) (fresh_one : Bool) (start size : ℕ) → fresh_one ≡ is_fresh d.standing → start ≡ (if fresh_one then prefix_len is_flag piece else 0) → rest ≡ drop start piece → size ≡ position_or_len is_flag rest → run ≡ take size rest → mid ≡ record { reader = d.reader; standing = after d.reader.limit d.standing run; frame = None } → got ≡ got_of (verdict_at mid.reader mid.standing) → new ≡ record { reader = mid.reader; standing = fresh; frame = frame_in (verdict_at mid.reader mid.standing) } → start + size < length piece → feed_step d piece ≡ record { fed = record { used = start + size + 1; got = got }; left = new }
 fed_ends d mid new piece rest run got fresh_one start size fresh_is start_is rest_is size_is run_is mid_is got_is new_is within =
     let at : flag_at d.standing piece ≡ start + size = cc in
     let run_same : run_in d.standing piece ≡ run = cc in
-    let left : Deframing → Feeding = λ m. record {
+    let left : DeframerState → FeedStep = λ m. record {
       fed = record { used = start + size + 1; got = got_of (verdict_at m.reader m.standing) };
       left = record { reader = m.reader; standing = fresh; frame = frame_in (verdict_at m.reader m.standing) };
     } in
-    feeding_ends d piece (omega arith)
+    step_ends d piece (omega arith)
     ∙ ap (λ r. ends_by d (verdict_at d.reader (after d.reader.limit d.standing r)) (flag_at d.standing piece + 1)) run_same
     ∙ ap (λ n. ends_by d (verdict_at d.reader (after d.reader.limit d.standing run)) (n + 1)) at
     ∙ ap left (sym mid_is)
