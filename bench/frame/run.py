@@ -1,7 +1,8 @@
 #!/usr/bin/env python3
 """Times `encode` and `feed` of ppp_frame against a plain loop in C with one table, and prints the table of ratios.
 
-Run by hand at the top of the repository; it needs gcc, and proves and builds the program main.rt over copies of the crates:
+Run by hand at the top of the repository; it needs gcc, and proves and builds the program main.rt.in over copies of the crates (a .rt file
+outside a crate is refused by the gate):
 
     bench/frame/run.py [ROOM [ROUNDS]]
 
@@ -34,7 +35,7 @@ def built(room):
             shutil.rmtree(copy, ignore_errors=True)
             if os.path.exists(source):
                 shutil.copytree(source, copy)
-    shutil.copy(os.path.join(HERE, "main.rt"), os.path.join(crates, "frame_bench", "src"))
+    shutil.copy(os.path.join(HERE, "main.rt.in"), os.path.join(crates, "frame_bench", "src", "main.rt"))
     with open(os.path.join(room, "crates.txt"), "w", encoding="utf-8") as file:
         file.write(CRATES)
     if not os.path.exists(os.path.join(room, ".git")):
