@@ -1,8 +1,7 @@
 #!/usr/bin/env python3
 """Times `encode` and `feed` of ppp_frame against a plain loop in C with one table, and prints the table of ratios.
 
-Run by hand at the top of the repository; it needs gcc, and proves and builds the program main.rt.in over copies of the crates (a .rt file
-outside a crate is refused by the gate):
+Run by hand at the top of the repository; it needs gcc, and proves and builds main.rt.in as a program over copies of the crates:
 
     bench/frame/run.py [ROOM [ROUNDS]]
 
