@@ -1,6 +1,7 @@
 pub mod Code
 pub mod ConfigOption
 pub mod Disc
+pub mod DiscClass
 pub mod OptList
 pub mod OptRef
 pub mod Options

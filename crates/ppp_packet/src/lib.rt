@@ -3,6 +3,7 @@
 
 mod code;
 mod disc;
+mod disc_class;
 mod law;
 mod opt;
 mod opt_list;
@@ -13,6 +14,7 @@ mod proto;
 
 pub use code::{Code, UnknownCode};
 pub use disc::{Disc, MOST_ADDRESS};
+pub use disc_class::{DiscClass, MOST_DIRECTORY, UnknownClass};
 pub use law::read_again;
 pub use opt::{MOST_KEPT_BODY, Opt};
 pub use opt_list::{MOST_LIST, NoRoom, OptList, write_options};
