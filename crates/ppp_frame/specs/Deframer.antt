@@ -82,6 +82,10 @@ feed_step d piece =
     if flag_at d.standing piece == length piece then goes_on d s (length piece)
     else ends_by d (verdict_at d.reader s) (flag_at d.standing piece + 1)
 
+-- these octets are taken at once and all of them, and are this frame
+abbrev pub TakesWhole : DeframerState → List ℕ → Read → Type 0
+TakesWhole d octets read = feed_step d octets ≡ ends_by d (Taken read) (length octets)
+
 -- ---- one call, seen from the whole stream
 
 -- the deframer stands where it stands after this stream

@@ -167,7 +167,9 @@ packets_in-entries (Tells told ∷ es) proper = packets_in-entries es proper
 
 pub AllHold-entries : (es : List Effect) → AllProper (packets_of es) → AllHold (map entry_of es)
 AllHold-entries [] proper = tt
-AllHold-entries (Sends p ∷ es) proper = (packet_of-octets_of p proper.0 ∙ ap Some (sym (packet_held-octets_of p proper.0)), AllHold-entries es proper.1)
+AllHold-entries (Sends p ∷ es) proper =
+    let held = packet_held-octets_of p proper.0 in
+    (record { reads = packet_of-octets_of p proper.0 ∙ ap Some (sym held); written = ap octets_of held }, AllHold-entries es proper.1)
 AllHold-entries (Tells told ∷ es) proper = AllHold-entries es proper
 
 -- what a packet is, it is answered accordingly, and a good request keeps the own list

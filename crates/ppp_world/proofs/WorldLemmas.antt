@@ -13,7 +13,8 @@ use Rattle.ppp_world.specs.Outstanding.{outstanding_in}
 use Rattle.ppp_world.specs.Run.{Moment, Place, moment_at, after_moment, deliveries, moments_of, place_after, run_from, shown, shown_at, report, refusal, refusal_with, before_refusal, kept_with}
 use Rattle.ppp_world.specs.Settings.{Settings, AreRanged, setup_of}
 use Rattle.ppp_world.specs.Step.{moved, next_delivery}
-use Rattle.ppp_world.specs.TwoEnds.{TwoEnds, settings_of, duet_seen, AreKept}
+use Rattle.ppp_world.specs.TwoEnds.{Line, TwoEnds, settings_of, duet_seen, AreKept, AreQueues}
+use Rattle.ppp_world.proofs.QueueLemmas.{line_is}
 use Rattle.ppp_world.specs.World.{World, world_of, place_of, written_by, unless_halted, does_moment, does_moments, does_step, world_after, settled, UnlessMemory, Makes, AreLed, IsLedUnless, IsCounted}
 use Rattle.ppp_world.specs.declared.outstanding.Outstanding.{Outstanding as Outstanding'}
 use Rattle.ppp_world.specs.declared.refusal.Refusal.{Refusal}
@@ -195,23 +196,26 @@ open_step : (old : TwoEnds) (steps : ℕ) (text : List ℕ) (step : Step) →
 unfolding does_moment
 open_step old steps text step = refl
 
-pub done_as : (old new : TwoEnds) (steps : ℕ) (text longer : List ℕ) (step : Step) → settings_of new ≡ settings_of old →
+pub done_as : (old new : TwoEnds) (steps : ℕ) (text longer : List ℕ) (step : Step) → settings_of new ≡ settings_of old → AreQueues new.to_a new.to_b →
     duet_seen new ≡ moved (settings_of old) (steps + 1) (duet_seen old) step → outstanding_in (duet_seen new) ≡ None → longer ≡ text ++ shown_at (steps + 1) (duet_seen new) step →
     world_of new (steps + 1) longer None ≡ does_step (world_of old steps text None) step
-done_as old new steps text longer step same is none shows =
-    rw (open_step old steps text step, ← is, none) (rw (shows, same) refl)
+done_as old new steps text longer step same queues is none shows =
+    ap (λ (l : Line). record (world_of new (steps + 1) longer None) { line = l }) (line_is new queues)
+    ∙ rw (open_step old steps text step, ← is, none) (rw (shows, same) refl)
 
-pub refused_as : (old new : TwoEnds) (steps : ℕ) (text : List ℕ) (step : Step) (fault : Outstanding') → settings_of new ≡ settings_of old →
+pub refused_as : (old new : TwoEnds) (steps : ℕ) (text : List ℕ) (step : Step) (fault : Outstanding') → settings_of new ≡ settings_of old → AreQueues new.to_a new.to_b →
     duet_seen new ≡ moved (settings_of old) (steps + 1) (duet_seen old) step → outstanding_in (duet_seen new) ≡ Some fault →
     world_of new steps text (Some (Outstanding fault)) ≡ does_step (world_of old steps text None) step
-refused_as old new steps text step fault same is some =
-    rw (open_step old steps text step, ← is, some) (rw same refl)
+refused_as old new steps text step fault same queues is some =
+    ap (λ (l : Line). record (world_of new steps text (Some (Outstanding fault))) { line = l }) (line_is new queues)
+    ∙ rw (open_step old steps text step, ← is, some) (rw same refl)
 
 -- what a world keeps, a step keeps that isn't refused
-pub led_on : (old new : TwoEnds) (steps : ℕ) (step : Step) → AreLed old steps → settings_of new ≡ settings_of old → AreKept new →
+pub led_on : (old new : TwoEnds) (steps : ℕ) (step : Step) → AreLed old steps → settings_of new ≡ settings_of old → AreKept new → AreQueues new.to_a new.to_b →
     duet_seen new ≡ moved (settings_of old) (steps + 1) (duet_seen old) step → outstanding_in (duet_seen new) ≡ None → AreLed new (steps + 1)
-led_on old new steps step led same kept is none = record {
+led_on old new steps step led same kept queues is none = record {
   kept = kept;
+  queues = queues;
   counted = subst (λ (d : Duet). IsCounted d (steps + 1)) (sym is) (counted_step (settings_of old) (steps + 1) (duet_seen old) step steps led.counted);
   led = record {
     ranged = subst AreRanged (sym same) led.led.ranged;
@@ -223,10 +227,10 @@ led_on old new steps step led same kept is none = record {
 
 -- nothing happens in a step but that it is counted
 pub rests_as : (ends : TwoEnds) (steps : ℕ) (text : List ℕ) → AreLed ends steps → world_of ends (steps + 1) text None ≡ does_step (world_of ends steps text None) Rests
-rests_as ends steps text led = done_as ends ends steps text text Rests refl refl (none_outstanding (duet_seen ends) led.led.narrow) (sym (append-nil text))
+rests_as ends steps text led = done_as ends ends steps text text Rests refl led.queues refl (none_outstanding (duet_seen ends) led.led.narrow) (sym (append-nil text))
 
 pub rests_on : (ends : TwoEnds) (steps : ℕ) → AreLed ends steps → AreLed ends (steps + 1)
-rests_on ends steps led = led_on ends ends steps Rests led refl led.kept refl (none_outstanding (duet_seen ends) led.led.narrow)
+rests_on ends steps led = led_on ends ends steps Rests led refl led.kept led.queues refl (none_outstanding (duet_seen ends) led.led.narrow)
 
 pub oldest_on : (old new : TwoEnds) (steps : ℕ) (step : Step) → AreLed old steps → duet_seen new ≡ moved (settings_of old) (steps + 1) (duet_seen old) step → OldestFirst (duet_seen new)
 oldest_on old new steps step led is =

@@ -6,6 +6,7 @@ pub mod LcpSettings
 pub mod Ledger
 pub mod Outstanding
 pub mod Party
+pub mod Queue
 pub mod Refusal
 pub mod Report
 pub mod Run

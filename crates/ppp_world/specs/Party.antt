@@ -1,14 +1,23 @@
 -- An end of the link, and what it comes to.
-use Rattle.std.specs.Prelude.{ℕ, List}
+use Rattle.std.specs.Prelude.{◌≡◌, ℕ, ◌==◌, Bool, false, List, Option, None, Some}
 use Rattle.ppp_auto.specs.Auto.{Auto, begun}
 use Rattle.ppp_auto.specs.Automaton.{Acted, command, take_in, entries_of}
 use Rattle.ppp_auto.specs.OptionTable.{Table}
+use Rattle.ppp_auto.specs.Packet.{octets_of}
 use Rattle.ppp_auto.specs.declared.auto_event.AutoEvent.{AutoEvent}
 use Rattle.ppp_duet.specs.Duet.{End, Marked}
+use Rattle.ppp_frame.specs.Deframer.{DeframerState}
+use Rattle.ppp_frame.specs.Header.{Read, reads}
+use Rattle.ppp_frame.specs.Standing.{fresh}
+use Rattle.ppp_frame.specs.Verdict.{whole_headers}
+use Rattle.ppp_packet.specs.Proto.{proto_number}
+use Rattle.ppp_packet.specs.declared.proto.Proto.TheVariants.{Lcp}
+use Rattle.ppp_world.specs.Frame.{Frame, packet_in}
 use Rattle.ppp_world.specs.Lcp.{lcp_table}
 use Rattle.ppp_world.specs.LcpSettings.{LcpSettings}
 use Rattle.ppp_world.specs.Ledger.{Ledger, IsLedgerOf, end_of, heard, ledger_begun, noted_all, packets_in, stamped}
 use Rattle.ppp_world.specs.Settings.{setup_of}
+use Rattle.ppp_world.specs.declared.frame.TheConstants.{MOST_FRAME}
 use Rattle.ppp_world.specs.declared.lcp.LcpTable.{LcpTable}
 
 pub record Party : Type 0 where
@@ -29,6 +38,21 @@ lcp_of t = lcp_table (settings_seen t)
 
 abbrev pub party_begun : LcpSettings → Party
 party_begun s = let setup = setup_of s in record { settings = s; auto = begun setup.table setup.first; ledger = ledger_begun }
+
+-- its deframer stands as after a flag, and reads whole headers
+pub record IsReady (d : DeframerState) : Type 0 where
+  pub stands : d.standing ≡ fresh
+  pub reader : d.reader ≡ whole_headers MOST_FRAME
+
+-- it was given that frame, lends what the frame carries, and is ready again
+pub record Lends (f : Frame) (d : DeframerState) : Type 0 where
+  pub ready : IsReady d
+  pub frame : d.frame ≡ Some (reads (proto_number Lcp) (octets_of (packet_in f.octets)))
+
+-- the frame that a deframer lends is LCP's
+abbrev pub lends_lcp : Option Read → Bool
+lends_lcp None = false
+lends_lcp (Some read) = read.protocol == proto_number Lcp
 
 -- the end that the laws of two ends speak of
 abbrev pub end_seen : Party → End

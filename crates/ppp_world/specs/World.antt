@@ -9,7 +9,7 @@ use Rattle.ppp_script.specs.declared.event.Event.{Event}
 use Rattle.ppp_world.specs.Outstanding.{outstanding_in}
 use Rattle.ppp_world.specs.Run.{Moment, Place, moment_at, deliveries, moments_of, shown}
 use Rattle.ppp_world.specs.Settings.{Settings, AreRanged, setup_of}
-use Rattle.ppp_world.specs.TwoEnds.{TwoEnds, settings_of, duet_seen, AreKept}
+use Rattle.ppp_world.specs.TwoEnds.{Line, TwoEnds, line_of, line_seen, settings_of, duet_seen, AreKept, AreQueues}
 use Rattle.ppp_world.specs.declared.outstanding.Outstanding.{Outstanding as Outstanding'}
 use Rattle.ppp_world.specs.declared.step.Step.{Step}
 use Rattle.ppp_world.specs.declared.world_fault.WorldFault.{WorldFault}
@@ -18,18 +18,28 @@ use Rattle.ppp_world.specs.declared.world_fault.WorldFault.TheVariants.{Memory, 
 pub record World : Type 0 where
   pub settings : Settings
   pub duet : Duet
+  -- what is under way between the two ends, in octets
+  pub line : Line
   pub steps : ℕ
   pub report : List ℕ
   pub halt : Option WorldFault
 
 abbrev pub world_begun : Settings → World
-world_begun s = record { settings = s; duet = start (setup_of s.a) (setup_of s.b); steps = 0; report = []; halt = None }
+world_begun s = record {
+  settings = s;
+  duet = start (setup_of s.a) (setup_of s.b);
+  line = record { to_a = []; to_b = [] };
+  steps = 0;
+  report = [];
+  halt = None;
+}
 
 -- a world as its parts say
 abbrev pub world_of : TwoEnds → ℕ → List ℕ → Option WorldFault → World
 world_of ends steps report halt = record {
   settings = settings_of ends;
   duet = duet_seen ends;
+  line = line_seen ends;
   steps = steps;
   report = report;
   halt = halt;
@@ -40,8 +50,18 @@ place_of w = record { done = w.steps; duet = w.duet }
 
 -- The step of a moment is counted and its report written, unless it is refused.
 abbrev pub written_by : World → Moment → Option Outstanding' → World
-written_by w m None = record w { duet = m.after; steps = m.number; report = w.report ++ shown m; halt = None }
-written_by w m (Some fault) = record w { duet = m.after; halt = Some (Outstanding fault) }
+written_by w m None = record w {
+  duet = m.after;
+  line = line_of m.after;
+  steps = m.number;
+  report = w.report ++ shown m;
+  halt = None;
+}
+written_by w m (Some fault) = record w {
+  duet = m.after;
+  line = line_of m.after;
+  halt = Some (Outstanding fault);
+}
 
 -- nothing more is done after a halt
 abbrev pub unless_halted : Option WorldFault → World → World → World
@@ -123,6 +143,7 @@ pub record IsLed (s : Settings) (d : Duet) : Type 0 where
 -- what a world keeps until it halts
 pub record AreLed (ends : TwoEnds) (steps : ℕ) : Type 0 where
   pub kept : AreKept ends
+  pub queues : AreQueues ends.to_a ends.to_b
   pub counted : IsCounted (duet_seen ends) steps
   pub led : IsLed (settings_of ends) (duet_seen ends)
 

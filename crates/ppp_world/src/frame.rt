@@ -1,13 +1,24 @@
 //! Frames under way.
 
-ghost use Rattle.std.specs.Prelude.{◌≡◌, IfOk, Some};
-ghost use Rattle.ppp_auto.specs.Packet.{packet_of};
-ghost use Rattle.ppp_world.specs.Frame.{frame_with, kind_of, packet_held, HoldsPacket};
+ghost use Rattle.std.specs.Prelude.{◌≡◌, IfOk};
+ghost use Rattle.ppp_world.specs.Frame.{kind_of, packet_held, packet_in, HoldsPacket};
 
 use ppp_auto::Memory;
+use ppp_frame::Form;
 use ppp_packet::Code;
 use std::alloc::Global;
 use std::marker::Model;
+
+/// How LCP's frames are written (RFC 1661 section 6.5, RFC 1662 section 7.1): with whole headers, and each octet below 20
+/// escaped.
+pub(crate) const LCP_FORM: Form = Form {
+    map: 0xffff_ffff,
+    ac: false,
+    pf: false,
+};
+
+/// The most octets of a frame, escapes undone, with header and check sequence.
+pub(crate) const MOST_FRAME: usize = 8200;
 
 /// The kinds of packets that a world tells apart by their Code (RFC 1661 section 5).
 #[derive(Clone, Copy, Debug, PartialEq, Eq)]
@@ -40,7 +51,8 @@ impl PacketKind {
     }
 }
 
-/// A packet under way, and its mark: of a Configure-Request its ordinal, of an answer that of what it answers.
+/// A frame under way: its octets, flags and all, and its mark, which is of a Configure-Request its ordinal, and of an answer
+/// that of what it answers. What kind of packet it carries is kept beside, so that no octet is read twice.
 #[derive(Drop)]
 pub(crate) struct Frame {
     mark: u64,
@@ -49,28 +61,27 @@ pub(crate) struct Frame {
 }
 
 impl Model for Frame {
-    ghost use Rattle.ppp_duet.specs.Duet.{Marked};
     ghost use Rattle.std.specs.Prelude.{◌≡◌};
-    ghost use Rattle.ppp_world.specs.Frame.{frame_with, kind_of, packet_held, HoldsPacket};
+    ghost use Rattle.ppp_world.specs.Frame.{kind_of, packet_in};
+    ghost use Rattle.ppp_world.specs.Frame as spec;
 
-    ghost Value = { Marked };
+    ghost Value = { spec.Frame };
 
-    ghost view = { λ f. frame_with f.mark f.octets.items };
+    ghost view = { λ f. record { mark = f.mark; octets = f.octets.items } };
 
-    ghost invariant = { λ f. HoldsPacket f.octets.items × (f.kind ≡ kind_of (packet_held f.octets.items)) };
+    ghost invariant = { λ f. f.kind ≡ kind_of (packet_in f.octets.items) };
 }
 
 impl Frame {
-    /// A frame with that mark and these octets, which are a packet of that kind.
+    /// A frame with that mark and these octets, which carries a packet of that kind.
     pub(crate) fn new(
         alloc: Global,
         mark: u64,
         kind: PacketKind,
         octets: &[u8],
     ) -> Result<Frame, Memory>
-        requires held { HoldsPacket octets.now }
-        requires kind { kind ≡ kind_of (packet_held octets.now) }
-        ensures { IfOk result (λ f. f ≡ frame_with mark octets.now) }
+        requires { kind ≡ kind_of (packet_in octets.now) }
+        ensures { IfOk result (λ f. f ≡ record { mark = mark; octets = octets.now }) }
     {
         match Vec::from_slice(alloc, octets) {
             Ok(octets) => Ok(Frame { mark, kind, octets }),
@@ -85,16 +96,16 @@ impl Frame {
         self.mark
     }
 
-    /// What kind its packet is.
+    /// What kind of packet it carries.
     pub(crate) fn kind(&self) -> PacketKind
-        ensures { result ≡ kind_of self.now.packet }
+        ensures { result ≡ kind_of (packet_in self.now.octets) }
     {
         self.kind
     }
 
     /// Its octets.
     pub(crate) fn octets(&self) -> &[u8]
-        ensures { packet_of result.now ≡ Some self.now.packet }
+        ensures { result.now ≡ self.now.octets }
     {
         self.octets.as_slice()
     }

@@ -2,7 +2,7 @@
 
 ghost use Rattle.std.specs.Prelude.{◌≡◌, ◌+◌, ◌^◌, ◌<◌, OnOk, Some, None, MatchOption};
 ghost use Rattle.ppp_packet.specs.Options.{HoldsOptions, list_of};
-ghost use Rattle.ppp_world.specs.Frame.{kind_of, packet_held, HoldsPacket};
+ghost use Rattle.ppp_world.specs.Frame.{kind_of, packet_held, packet_in, HoldsPacket};
 ghost use Rattle.ppp_world.specs.Ledger.{heard, last_of, ledger_begun, noted};
 
 use crate::frame::{Frame, PacketKind};
@@ -64,7 +64,7 @@ impl Ledger {
 
     /// Notes a frame that is taken in, in that state: requests don't count in Initial and Starting.
     pub(crate) fn hear(&mut self, state: AutoState, frame: &Frame)
-        ensures { self.new ≡ heard self.old state frame.now.mark frame.now.packet }
+        ensures { self.new ≡ heard self.old state frame.now.mark (packet_in frame.now.octets) }
     {
         match (frame.kind(), state) {
             (PacketKind::Request, AutoState::Initial | AutoState::Starting) => {}

@@ -1,14 +1,19 @@
 //! Queues of frames.
 
-ghost use Rattle.std.specs.Prelude.{◌≡◌, ◌<◌, ◌≤◌, ◌↔◌, [], ◌∷◌, ◌++◌, take, length, IsTrue, OnOk, OnErr, MatchOption};
+ghost use Rattle.std.specs.Prelude.{◌≡◌, ◌<◌, ◌≤◌, ◌↔◌, [], ◌∷◌, ◌++◌, take, length, IsTrue, IfOk, OnOk, OnErr, MatchOption};
 ghost use Rattle.std.specs.List.{remove};
 ghost use Rattle.std.specs.Option.{option_to_list};
 ghost use Rattle.ppp_duet.specs.Duet.{without};
 ghost use Rattle.ppp_duet.specs.Span.{requests, answers, request_mark, answer_mark};
+ghost use Rattle.ppp_frame.specs.declared.frame_buf.TheConstants.{MOST_INFO};
+ghost use Rattle.ppp_world.specs.Frame.{framed, kind_of, packet_held, packet_in, HoldsPacket};
+ghost use Rattle.ppp_world.specs.Queue.{under_way, IsQueue};
 ghost use Rattle.ppp_world.specs.declared.queue.TheConstants.{ROOM};
 
-use crate::frame::{Frame, PacketKind};
+use crate::frame::{Frame, LCP_FORM, PacketKind};
 use ppp_auto::Memory;
+use ppp_frame::{FrameBuf, encode};
+use ppp_packet::Proto;
 use std::alloc::Global;
 use std::collections::VecDeque;
 use std::marker::Model;
@@ -16,32 +21,37 @@ use std::marker::Model;
 /// How many frames a queue holds.
 pub(crate) const ROOM: usize = 1024;
 
-/// The frames under way to an end, the oldest first, at most 1,024. It is seen as the list of them.
+/// The frames under way to an end, the oldest first, at most 1,024, and the buffer in which they are written. It is seen as
+/// the list of them.
 #[derive(Drop)]
 pub(crate) struct Queue {
     frames: VecDeque<Frame>,
+    buffer: FrameBuf,
+    alloc: Global,
 }
 
 impl Model for Queue {
-    ghost use Rattle.std.specs.Prelude.{List, ◌≤◌, length};
-    ghost use Rattle.ppp_duet.specs.Duet.{Marked};
-    ghost use Rattle.ppp_world.specs.declared.queue.TheConstants.{ROOM};
+    ghost use Rattle.std.specs.Prelude.{List};
+    ghost use Rattle.ppp_world.specs.Frame.{Frame};
+    ghost use Rattle.ppp_world.specs.Queue.{IsQueue};
 
-    ghost Value = { List Marked };
+    ghost Value = { List Frame };
 
     ghost view = { λ q. q.frames.items };
 
-    ghost invariant = { λ q. length q.frames.items ≤ ROOM };
+    ghost invariant = { λ q. IsQueue q.frames.items };
 }
 
 impl Queue {
     /// A queue with no frame.
-    pub(crate) fn new(alloc: Global) -> Queue
-        ensures { result ≡ [] }
+    pub(crate) fn new(alloc: Global) -> Result<Queue, Memory>
+        ensures { IfOk result (λ q. q ≡ []) }
     {
-        Queue {
+        Ok(Queue {
             frames: VecDeque::new(alloc),
-        }
+            buffer: FrameBuf::new(alloc)?,
+            alloc,
+        })
     }
 
     /// Whether no frame is under way.
@@ -51,22 +61,28 @@ impl Queue {
         self.frames.is_empty()
     }
 
-    /// Puts a frame at the end, or loses it where the queue is full.
-    pub(crate) fn push(&mut self, frame: Frame) -> Result<(), Memory>
-        ensures ok { OnOk result (self.new ≡ take ROOM (self.old ++ frame ∷ [])) }
-        ensures room { length self.new ≤ ROOM }
+    /// Puts the frame of a packet of LCP at the end, or loses it where the queue is full.
+    pub(crate) fn send(&mut self, mark: u64, kind: PacketKind, packet: &[u8]) -> Result<(), Memory>
+        requires holds { HoldsPacket packet.now }
+        requires few { length packet.now ≤ MOST_INFO }
+        requires kind { kind ≡ kind_of (packet_held packet.now) }
+        ensures ok { OnOk result (self.new
+            ≡ take ROOM (self.old ++ record { mark = mark; octets = framed packet.now } ∷ [])) }
+        ensures queue { IsQueue self.new }
     {
         if self.frames.len() >= ROOM {
             return Ok(());
         }
-        put(&mut self.frames, frame)?;
-        Ok(())
+        write_frame(&mut self.buffer, packet);
+        let frame = Frame::new(self.alloc, mark, kind, self.buffer.octets())?;
+        put(&mut self.frames, frame)
     }
 
     /// Takes the front frame out.
     pub(crate) fn pop(&mut self) -> Option<Frame>
-        ensures { MatchOption result ((self.old ≡ []) × (self.new ≡ []))
+        ensures front { MatchOption result ((self.old ≡ []) × (self.new ≡ []))
             (λ frame. self.old ≡ frame ∷ self.new) }
+        ensures queue { IsQueue self.new }
     {
         self.frames.pop_front()
     }
@@ -86,7 +102,7 @@ impl Queue {
 
     /// The ordinal of the first Configure-Request in the queue.
     pub(crate) fn first_request(&self) -> Option<u64>
-        ensures { option_to_list result ≡ take 1 (requests self.now) }
+        ensures { option_to_list result ≡ take 1 (requests (under_way self.now)) }
     {
         for i in 0..self.frames.len() {
             if let Some(mark) = request_mark(&self.frames[i]) {
@@ -98,7 +114,7 @@ impl Queue {
 
     /// The ordinal of the request that the first answer to one in the queue answers.
     pub(crate) fn first_answer(&self) -> Option<u64>
-        ensures { option_to_list result ≡ take 1 (answers self.now) }
+        ensures { option_to_list result ≡ take 1 (answers (under_way self.now)) }
     {
         for i in 0..self.frames.len() {
             if let Some(mark) = answer_mark(&self.frames[i]) {
@@ -107,6 +123,14 @@ impl Queue {
         }
         None
     }
+}
+
+/// Writes the frame of a packet of LCP.
+fn write_frame(buffer: &mut FrameBuf, packet: &[u8])
+    requires { length packet.now ≤ MOST_INFO }
+    ensures { buffer.new ≡ framed packet.now }
+{
+    encode(buffer, LCP_FORM, Proto::Lcp.number(), packet).unwrap();
 }
 
 /// Puts a frame at the end.
@@ -130,7 +154,7 @@ fn lose_at(frames: &mut VecDeque<Frame>, i: usize)
 
 /// The mark of a frame, if it is a Configure-Request.
 fn request_mark(frame: &Frame) -> Option<u64>
-    ensures { option_to_list result ≡ request_mark frame.now.mark frame.now.packet }
+    ensures { option_to_list result ≡ request_mark frame.now.mark (packet_in frame.now.octets) }
 {
     match frame.kind() {
         PacketKind::Request => Some(frame.mark()),
@@ -140,7 +164,7 @@ fn request_mark(frame: &Frame) -> Option<u64>
 
 /// The mark of a frame, if it answers a Configure-Request.
 fn answer_mark(frame: &Frame) -> Option<u64>
-    ensures { option_to_list result ≡ answer_mark frame.now.mark frame.now.packet }
+    ensures { option_to_list result ≡ answer_mark frame.now.mark (packet_in frame.now.octets) }
 {
     match frame.kind() {
         PacketKind::Ack | PacketKind::Refusal => Some(frame.mark()),

@@ -1,13 +1,14 @@
 //! The two ends of the link and what is under way between them.
 
-ghost use Rattle.std.specs.Prelude.{◌≡◌, ◌≤◌, ◌<◌, ◌^◌, ◌++◌, take, length, OnOk, IfOk};
+ghost use Rattle.std.specs.Prelude.{◌≡◌, ◌<◌, ◌^◌, ◌++◌, take, OnOk, IfOk};
 ghost use Rattle.ppp_duet.specs.Reached.{OldestFirst};
 ghost use Rattle.ppp_duet.specs.Span.{answers, least, requests};
 ghost use Rattle.ppp_world.specs.Outstanding.{oldest_of, outstanding_at, outstanding_of};
 ghost use Rattle.ppp_world.specs.Party.{end_seen, IsKept};
+ghost use Rattle.ppp_world.specs.Queue.{under_way, IsQueue};
 ghost use Rattle.ppp_world.specs.Settings.{default_settings};
 ghost use Rattle.ppp_world.specs.Step.{moved, next_delivery, word_of};
-ghost use Rattle.ppp_world.specs.TwoEnds.{acted, duet_seen, ends_begun, settings_of, AreKept};
+ghost use Rattle.ppp_world.specs.TwoEnds.{acted, duet_seen, ends_begun, settings_of, AreKept, AreQueues};
 ghost use Rattle.ppp_world.specs.declared.queue.TheConstants.{ROOM};
 
 use crate::lcp::LcpTable;
@@ -31,18 +32,17 @@ pub(crate) struct TwoEnds {
     to_a: Queue,
     to_b: Queue,
     out: Outbox,
-    alloc: Global,
 }
 
 impl Model for TwoEnds {
-    ghost use Rattle.ppp_world.specs.TwoEnds.{HasRoom};
+    ghost use Rattle.ppp_world.specs.TwoEnds.{AreQueues};
     ghost use Rattle.ppp_world.specs.TwoEnds as spec;
 
     ghost Value = { spec.TwoEnds };
 
     ghost view = { λ d. record { a = d.a; b = d.b; to_a = d.to_a; to_b = d.to_b } };
 
-    ghost invariant = { λ d. HasRoom d.to_a d.to_b };
+    ghost invariant = { λ d. AreQueues d.to_a d.to_b };
 }
 
 impl TwoEnds {
@@ -50,14 +50,12 @@ impl TwoEnds {
     pub(crate) fn new(alloc: Global) -> Result<TwoEnds, Memory>
         ensures { IfOk result (λ d. d ≡ ends_begun default_settings) }
     {
-        let out = Outbox::new(alloc)?;
         Ok(TwoEnds {
-            a: Party::new(alloc),
-            b: Party::new(alloc),
-            to_a: Queue::new(alloc),
-            to_b: Queue::new(alloc),
-            out,
-            alloc,
+            a: Party::new(alloc)?,
+            b: Party::new(alloc)?,
+            to_a: Queue::new(alloc)?,
+            to_b: Queue::new(alloc)?,
+            out: Outbox::new(alloc)?,
         })
     }
 
@@ -70,6 +68,7 @@ impl TwoEnds {
         ensures duet { OnOk result (duet_seen self.new
             ≡ moved (settings_of self.old) number (duet_seen self.old) (Step.Happens at what)) }
         ensures kept { OnOk result (AreKept self.new) }
+        ensures queues { AreQueues self.new.to_a self.new.to_b }
     {
         let word = word_at(at, number);
         match at {
@@ -80,7 +79,6 @@ impl TwoEnds {
                 what,
                 word,
                 &mut self.out,
-                self.alloc,
             ),
             End::B => act(
                 &mut self.b,
@@ -89,7 +87,6 @@ impl TwoEnds {
                 what,
                 word,
                 &mut self.out,
-                self.alloc,
             ),
         }
     }
@@ -151,27 +148,26 @@ fn act(
     what: Happening,
     word: u64,
     out: &mut Outbox,
-    alloc: Global,
 ) -> Result<(), Memory>
     requires kept { IsKept party.old }
     requires few { party.old.ledger.n < 2 ^ 63 }
-    requires room_in { length incoming.old ≤ ROOM }
-    requires room_out { length outgoing.old ≤ ROOM }
-    ensures end { OnOk result
-        (end_seen party.new ≡ (acted party.old incoming.old outgoing.old what word).a) }
+    requires queue_in { IsQueue incoming.old }
+    requires queue_out { IsQueue outgoing.old }
+    ensures end { OnOk result (end_seen party.new
+        ≡ (acted party.old (under_way incoming.old) (under_way outgoing.old) what word).a) }
     ensures settings { party.new.settings ≡ party.old.settings }
     ensures kept { OnOk result (IsKept party.new) }
-    ensures incoming { OnOk result
-        (incoming.new ≡ (acted party.old incoming.old outgoing.old what word).to_a) }
-    ensures outgoing { OnOk result
-        (outgoing.new ≡ take ROOM (acted party.old incoming.old outgoing.old what word).to_b) }
-    ensures room_in { length incoming.new ≤ ROOM }
-    ensures room_out { length outgoing.new ≤ ROOM }
+    ensures incoming { OnOk result (under_way incoming.new
+        ≡ (acted party.old (under_way incoming.old) (under_way outgoing.old) what word).to_a) }
+    ensures outgoing { OnOk result (under_way outgoing.new
+        ≡ take ROOM (acted party.old (under_way incoming.old) (under_way outgoing.old) what word).to_b) }
+    ensures queue_in { IsQueue incoming.new }
+    ensures queue_out { IsQueue outgoing.new }
 {
     match what {
-        Happening::Command(event) => party.command(event, word, out, outgoing, alloc),
+        Happening::Command(event) => party.command(event, word, out, outgoing),
         Happening::Deliver => match incoming.pop() {
-            Some(frame) => party.take(&frame, word, out, outgoing, alloc),
+            Some(frame) => party.take(&frame, word, out, outgoing),
             None => Ok(()),
         },
         Happening::Lose(place) => {
@@ -183,9 +179,9 @@ fn act(
 
 /// An end's span, if it is too wide: after the request of that ordinal, with what is under way from it and back to it.
 fn outstanding_of(end: End, sent: u64, out: &Queue, back: &Queue) -> Option<Outstanding>
-    requires { oldest_of sent out.now back.now
-        ≡ least sent (take 1 (requests out.now) ++ take 1 (answers back.now)) }
-    ensures { result ≡ outstanding_of end sent out.now back.now }
+    requires { oldest_of sent (under_way out.now) (under_way back.now)
+        ≡ least sent (take 1 (requests (under_way out.now)) ++ take 1 (answers (under_way back.now))) }
+    ensures { result ≡ outstanding_of end sent (under_way out.now) (under_way back.now) }
 {
     let by_request = out.first_request().unwrap_or(sent);
     let by_answer = back.first_answer().unwrap_or(sent);

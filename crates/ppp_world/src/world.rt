@@ -10,7 +10,7 @@ ghost use Rattle.ppp_world.specs.Outstanding.{outstanding_at, outstanding_in};
 ghost use Rattle.ppp_world.specs.Run.{shown_at};
 ghost use Rattle.ppp_world.specs.Settings.{default_settings};
 ghost use Rattle.ppp_world.specs.Step.{moved};
-ghost use Rattle.ppp_world.specs.TwoEnds.{duet_seen, settings_of, AreKept};
+ghost use Rattle.ppp_world.specs.TwoEnds.{duet_seen, line_of, settings_of, AreKept, AreQueues};
 ghost use Rattle.ppp_world.specs.World.{answer_of, does_step, fault_in, settled, world_after, world_begun, world_of, AreLed, Makes, UnlessMemory};
 
 use crate::agreement::agree;
@@ -69,6 +69,7 @@ impl World {
         ensures done { UnlessMemory self.new.halt (self.new ≡ world_after self.old event.now) }
         ensures makes { UnlessMemory self.new.halt
             (Makes self.old.settings (steps_in event.now) self.old.duet self.new.duet) }
+        ensures framed { OnOk result (self.new.line ≡ line_of self.new.duet) }
         ensures answer { result ≡ answer_of self.new.halt }
         ensures halted { IsSome self.old.halt → self.new ≡ self.old }
         ensures steps { self.new.steps ≤ self.old.steps + steps_in event.now }
@@ -222,12 +223,14 @@ fn wider_at(ends: &TwoEnds, end: End, drew: bool) -> Option<Outstanding>
 /// Does the step of that number.
 fn advance(ends: &mut TwoEnds, number: u32, step: Step) -> Result<(), Memory>
     requires kept { AreKept ends.old }
+    requires queues { AreQueues ends.old.to_a ends.old.to_b }
     requires few_a { ends.old.a.ledger.n < 2 ^ 63 }
     requires few_b { ends.old.b.ledger.n < 2 ^ 63 }
     ensures settings { settings_of ends.new ≡ settings_of ends.old }
     ensures done { OnOk result
         (duet_seen ends.new ≡ moved (settings_of ends.old) number (duet_seen ends.old) step) }
     ensures kept { OnOk result (AreKept ends.new) }
+    ensures queues { AreQueues ends.new.to_a ends.new.to_b }
 {
     match step {
         Step::Happens(at, what) => ends.happens(at, what, number),

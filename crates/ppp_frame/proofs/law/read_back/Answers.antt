@@ -3,6 +3,7 @@ use Rattle.ppp_frame.specs.Frame.{Framed, inside}
 use Rattle.ppp_frame.proofs.DiscardLemmas.{cause_is_discard, discard_has_cause}
 use Rattle.ppp_frame.proofs.FrameLemmas.{answered_framed, framed_answered, framed_once, sent_framed}
 use Rattle.ppp_frame.proofs.HeaderLemmas.{headed_read, read_headed}
+use Rattle.ppp_frame.proofs.RoundTripLemmas.{takes_sent}
 use Rattle.ppp_frame.proofs.StreamLemmas.{pieces_flagless}
 use Rattle.ppp_frame.proofs.law.read_back.Goals as goal
 
@@ -22,4 +23,5 @@ returns c = record {
   header = λ ac pf protocol info octets.
       (read_headed ac pf protocol info octets, headed_read ac pf protocol info octets);
   pieces = λ stream. pieces_flagless [] stream tt;
+  taken = takes_sent;
 }

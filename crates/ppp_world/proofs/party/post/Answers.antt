@@ -2,6 +2,7 @@ use Rattle.std.proofs.Common.{◌≡◌, suc, [], ◌∷◌, drop, arith, add-on
 use Rattle.ppp_auto.specs.Outbox.{entry_seen}
 use Rattle.ppp_world.specs.Ledger.{Ledger}
 use Rattle.ppp_world.proofs.PartyLemmas.{left-next, first-holds, drop-get, noted-le, left-none, drop-past}
+use Rattle.ppp_world.proofs.QueueLemmas.{few_under_way}
 use Rattle.ppp_world.proofs.party.post.Goals as goal
 
 pub post_entry-requires-clause-held : goal.post_entry-requires-clause-held
@@ -14,8 +15,8 @@ loop-i-preserved c =
     let same = ap (λ (g : Ledger). g.n) c.in_ok-post_entry.ensures.ledger in
     record {
       few = omega (arith, grown, same, c.loop-i.invariant.few);
-      room = c.post_entry.ensures.room;
-      left = rw add-one (left-next (entry_seen c.at.result) _ _ _ _ _ _ _ _ _ _ front c.in_ok-post_entry.ensures.ledger c.in_ok-post_entry.ensures.queue c.loop-i.invariant.left);
+      queue = c.post_entry.ensures.queue;
+      left = rw add-one (left-next (entry_seen c.at.result) _ _ _ _ _ _ _ _ _ _ front c.in_ok-post_entry.ensures.ledger c.in_ok-post_entry.ensures.sent c.loop-i.invariant.left);
     }
 
 pub returns-clause-ledger : goal.returns-clause-ledger
@@ -23,7 +24,7 @@ returns-clause-ledger c =
     let none : drop c.loop-i.i c.args.out.now ≡ [] = drop-past c.loop-i.i c.args.out.now (omega (arith, c.count-i-end.ensures.count, c.loop-i-test.false)) in
     sym (rw none at c.loop-i.invariant.left).notes
 
-pub returns-clause-queue : goal.returns-clause-queue
-returns-clause-queue c =
+pub returns-clause-sent : goal.returns-clause-sent
+returns-clause-sent c =
     let none : drop c.loop-i.i c.args.out.now ≡ [] = drop-past c.loop-i.i c.args.out.now (omega (arith, c.count-i-end.ensures.count, c.loop-i-test.false)) in
-    left-none _ _ _ _ _ _ c.loop-i.invariant.room (rw none at c.loop-i.invariant.left)
+    left-none _ _ _ _ _ _ (few_under_way c.loop-i.queue c.loop-i.invariant.queue) (rw none at c.loop-i.invariant.left)

@@ -18,15 +18,15 @@ wider_since-requires-clause-still_b c =
 
 pub returns-in-Some-clause-done : goal.returns-in-Some-clause-done
 returns-in-Some-clause-done c =
-    refused_as c.args.ends.now c.advance.new.ends c.args.steps.now _ c.args.step c.in-Some.fault c.advance.ensures.settings c.in-Ok.ensures.done (sym c.wider_since.ensures ∙ c.in-Some.is)
+    refused_as c.args.ends.now c.advance.new.ends c.args.steps.now _ c.args.step c.in-Some.fault c.advance.ensures.settings c.advance.ensures.queues c.in-Ok.ensures.done (sym c.wider_since.ensures ∙ c.in-Some.is)
 
 pub returns-clause-done : goal.returns-clause-done
 returns-clause-done c =
-    done_as c.args.ends.now c.advance.new.ends c.args.steps.now _ _ c.args.step c.advance.ensures.settings c.in-Ok.ensures.done (sym c.wider_since.ensures ∙ c.in_default-wider_since.is) c.in-Ok-show.ensures
+    done_as c.args.ends.now c.advance.new.ends c.args.steps.now _ _ c.args.step c.advance.ensures.settings c.advance.ensures.queues c.in-Ok.ensures.done (sym c.wider_since.ensures ∙ c.in_default-wider_since.is) c.in-Ok-show.ensures
 
 pub returns-clause-led : goal.returns-clause-led
 returns-clause-led c =
-    led_on c.args.ends.now c.advance.new.ends c.args.steps.now c.args.step c.requires.led c.advance.ensures.settings c.in-Ok.ensures.kept c.in-Ok.ensures.done (sym c.wider_since.ensures ∙ c.in_default-wider_since.is)
+    led_on c.args.ends.now c.advance.new.ends c.args.steps.now c.args.step c.requires.led c.advance.ensures.settings c.in-Ok.ensures.kept c.advance.ensures.queues c.in-Ok.ensures.done (sym c.wider_since.ensures ∙ c.in_default-wider_since.is)
 
 pub returns-in-Rests-clause-done : goal.returns-in-Rests-clause-done
 returns-in-Rests-clause-done c =
