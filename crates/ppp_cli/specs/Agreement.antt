@@ -1,7 +1,7 @@
 -- Two Opened ends agree in the run that an input is replayed as.
 use Rattle.std.specs.Prelude.{ℕ, List, Option, Some, None, Result, Ok, Err, ⊤}
 use Rattle.ppp_cli.specs.declared.command.Command.{Command}
-use Rattle.ppp_cli.specs.declared.command.Command.TheVariants.{Replay}
+use Rattle.ppp_cli.specs.declared.command.Command.TheVariants.{Replay, Show}
 use Rattle.ppp_cli.specs.declared.reply.TheConstants.{LINKS}
 use Rattle.ppp_script.specs.Event.{event_form}
 use Rattle.ppp_script.specs.Script.{Refusal, events_of}
@@ -18,5 +18,6 @@ AgreesIfRead (Err refused) = ⊤
 -- so it is of the run that an input is replayed as
 abbrev pub AgreesIfReplayed : Option Command → Option (List ℕ) → Type 0
 AgreesIfReplayed None told = ⊤
+AgreesIfReplayed (Some Show) told = ⊤
 AgreesIfReplayed (Some Replay) None = ⊤
 AgreesIfReplayed (Some Replay) (Some text) = AgreesIfRead (events_of event_form LINKS (script_in text))

@@ -6,6 +6,10 @@ use Rattle.ppp_cli.specs.declared.input.Input.{Input}
 use Rattle.ppp_cli.specs.declared.input.Input.TheVariants.{Text, TooLong, Failed, Memory}
 use Rattle.ppp_cli.specs.declared.input.TheConstants.{MOST_OCTETS}
 
+-- so many octets are taken at most
+abbrev pub TakesAtMost : ℕ → Option (List ℕ) → Option (List ℕ) → Type 0
+TakesAtMost most old new = (taken : List ℕ) × TakesOff old new taken × (length taken ≤ most)
+
 -- one octet more is taken than an input has
 abbrev pub TakesTooMany : Option (List ℕ) → Option (List ℕ) → Type 0
 TakesTooMany old new = (taken : List ℕ) × TakesOff old new taken × (length taken ≡ MOST_OCTETS + 1)

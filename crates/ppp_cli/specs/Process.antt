@@ -1,5 +1,5 @@
 -- A run of the program as a process.
-use Rattle.std.specs.Prelude.{◌≡◌, ℕ, List, [], ◌∷◌, Option, None, IsSome, Result, Ok, Err}
+use Rattle.std.specs.Prelude.{◌≡◌, ℕ, ◌+◌, List, [], ◌∷◌, Option, None, IsSome, Result, Ok, Err}
 use Rattle.std.specs.Process.{exit_status}
 use Rattle.std.specs.Vec.Iter.{into_iter_items}
 use Rattle.std.specs.declared.process.ExitCode.{ExitCode}
@@ -7,10 +7,11 @@ use Rattle.std.specs.declared.vec.IntoIter.{IntoIter}
 use Rattle.ppp_io.specs.Account.{IsDrained}
 use Rattle.ppp_io.specs.Fault.{Rose}
 use Rattle.ppp_cli.specs.Answer.{Answers}
-use Rattle.ppp_cli.specs.Input.{TakesTooMany}
+use Rattle.ppp_cli.specs.Input.{TakesAtMost, TakesTooMany}
 use Rattle.ppp_cli.specs.Reply.{reply_to}
 use Rattle.ppp_cli.specs.Status.{code_of, IsOfText}
 use Rattle.ppp_cli.specs.declared.command.Command.{Command}
+use Rattle.ppp_cli.specs.declared.input.TheConstants.{MOST_OCTETS}
 use Rattle.ppp_cli.specs.declared.status.Status.{Status}
 use Rattle.ppp_cli.specs.declared.status.Status.TheVariants.{BadWords, ReadFault, TooLong, WriteFault}
 
@@ -33,6 +34,7 @@ pub record MayEnd (command : Option Command) (left left' held held' : Option (Li
   pub read_rose : status ≡ ReadFault → Rose read read'
   pub read_words : status ≡ ReadFault → IsSome command
   pub read_end : IsOfText status → IsDrained left'
+  pub taken : TakesAtMost (MOST_OCTETS + 1) left left'
   pub long : status ≡ TooLong → TakesTooMany left left'
   pub write_rose : status ≡ WriteFault → Rose written written'
 

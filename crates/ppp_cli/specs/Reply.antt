@@ -3,7 +3,7 @@ use Rattle.std.specs.Prelude.{ℕ, Bool, ◌||◌, nat_lt, if◌then◌else◌, 
 use Rattle.std.specs.Fmt.{decimal}
 use Rattle.std.specs.Str.{bytes_eq}
 use Rattle.ppp_cli.specs.declared.command.Command.{Command}
-use Rattle.ppp_cli.specs.declared.command.Command.TheVariants.{Replay}
+use Rattle.ppp_cli.specs.declared.command.Command.TheVariants.{Replay, Show}
 use Rattle.ppp_cli.specs.declared.input.TheConstants.{MOST_OCTETS}
 use Rattle.ppp_cli.specs.declared.reply.Reply.{Reply as Reply'}
 use Rattle.ppp_cli.specs.declared.reply.TheConstants.{LINKS}
@@ -14,6 +14,8 @@ use Rattle.ppp_script.specs.LineWhy.{why_name}
 use Rattle.ppp_script.specs.Script.{Refusal as Refusal', events_of}
 use Rattle.ppp_script.specs.declared.event.Event.{Event}
 use Rattle.ppp_script.specs.declared.line_why.LineWhy.{LineWhy}
+use Rattle.ppp_script.specs.declared.line_why.LineWhy.TheVariants.{Event as EventWhy}
+use Rattle.ppp_show.specs.Stream.{show_of}
 use Rattle.ppp_text.specs.Parts.{settings_in, script_in}
 use Rattle.ppp_world.specs.Refusal.{refusal_text}
 use Rattle.ppp_world.specs.Run.{Moment, run_of, report, refusal, before_refusal}
@@ -70,16 +72,29 @@ reply_to_events (Err refused) = reply_to_line refused.line refused.why
 abbrev pub is_built : List ℕ → Bool
 is_built settings = bytes_eq settings (codes "version = 1") || bytes_eq settings (codes "version = 1\n")
 
--- The size is looked at first, then the settings, then the script's lines, then its steps in order.
-abbrev pub reply_to_text : List ℕ → Reply
-reply_to_text text =
-    if nat_lt MOST_OCTETS (length text) then says TooLong too_long_line
-    else if is_built (settings_in text)
+-- the settings are looked at first, then the script's lines, then its steps in order
+abbrev pub reply_to_replay : List ℕ → Reply
+reply_to_replay text =
+    if is_built (settings_in text)
     then reply_to_events (events_of event_form LINKS (script_in text))
     else says NotBuilt not_built_line
+
+-- what a capture shows, or its first line that is refused
+abbrev pub reply_to_capture : Result (List ℕ) ℕ → Reply
+reply_to_capture (Ok octets) = says Fine octets
+reply_to_capture (Err line) = reply_to_line line EventWhy
+
+abbrev pub reply_to_command : Command → List ℕ → Reply
+reply_to_command Replay text = reply_to_replay text
+reply_to_command Show text = reply_to_capture (show_of text)
+
+-- the size is looked at first
+abbrev pub reply_to_text : Command → List ℕ → Reply
+reply_to_text command text =
+    if nat_lt MOST_OCTETS (length text) then says TooLong too_long_line else reply_to_command command text
 
 -- The reply to words and to the input's octets: None where a source that doesn't tell them decides it.
 abbrev pub reply_to : Option Command → Option (List ℕ) → Option Reply
 reply_to None told = Some (says BadWords usage_line)
-reply_to (Some Replay) None = None
-reply_to (Some Replay) (Some text) = Some (reply_to_text text)
+reply_to (Some command) None = None
+reply_to (Some command) (Some text) = Some (reply_to_text command text)

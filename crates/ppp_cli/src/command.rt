@@ -8,6 +8,8 @@ ghost use Rattle.ppp_cli.specs.Command.{command_in};
 pub(crate) enum Command {
     /// `replay`: replays a script.
     Replay,
+    /// `show`: shows a capture of hex lines.
+    Show,
 }
 
 impl Command {
@@ -17,6 +19,7 @@ impl Command {
     {
         match words {
             [word] if word.as_str() == "replay" => Some(Command::Replay),
+            [word] if word.as_str() == "show" => Some(Command::Show),
             _ => None,
         }
     }

@@ -1,7 +1,7 @@
 //! The input, read to its end.
 
-ghost use Rattle.std.specs.Prelude.{◌≤◌};
-ghost use Rattle.ppp_cli.specs.Input.{IsInput};
+ghost use Rattle.std.specs.Prelude.{◌+◌, ◌≤◌};
+ghost use Rattle.ppp_cli.specs.Input.{IsInput, TakesAtMost};
 
 use ppp_io::{ReadGot, Source};
 use std::alloc::Global;
@@ -29,6 +29,7 @@ pub(crate) enum Input {
 pub(crate) fn read_input<S: Source>(alloc: Global, input: &mut S) -> Input
     ensures read { IsInput (S.left input.old) (S.left input.new)
         (S.faults input.old) (S.faults input.new) result }
+    ensures taken { TakesAtMost (MOST_OCTETS + 1) (S.left input.old) (S.left input.new) }
     ensures later { S.faults input.old ≤ S.faults input.new }
 {
     let mut text = Vec::new(alloc);

@@ -1,15 +1,15 @@
 //! The whole program.
 
-ghost use Rattle.std.specs.Prelude.{◌≡◌, ◌≢◌, IsSome, Some, None};
+ghost use Rattle.std.specs.Prelude.{◌≡◌, ◌≢◌, ◌+◌, IsSome, Some, None};
 ghost use Rattle.ppp_io.specs.Account.{IsDrained};
 ghost use Rattle.ppp_io.specs.Fault.{Rose};
 ghost use Rattle.ppp_cli.specs.Agreement.{AgreesIfReplayed};
 ghost use Rattle.ppp_cli.specs.Answer.{Answers, SaysIfReadFault};
 ghost use Rattle.ppp_cli.specs.Command.{command_in};
-ghost use Rattle.ppp_cli.specs.Input.{TakesTooMany};
+ghost use Rattle.ppp_cli.specs.Input.{TakesAtMost, TakesTooMany};
 ghost use Rattle.ppp_cli.specs.Reply.{reply_to};
 ghost use Rattle.ppp_cli.specs.Status.{IsOfText};
-ghost use Rattle.ppp_cli.specs.declared.command.Command.TheVariants.{Replay};
+ghost use Rattle.ppp_cli.specs.declared.input.TheConstants.{MOST_OCTETS};
 
 use crate::command::Command;
 use crate::input::{Input, read_input};
@@ -44,29 +44,36 @@ pub fn ppp_run<S: Source, K: Sink>(
     ensures read_words { result ≡ Status.ReadFault → IsSome (command_in args.now) }
     ensures read_line { SaysIfReadFault result (K.held output.old) (K.held output.new) }
     ensures read_end { IsOfText result → IsDrained (S.left input.new) }
+    ensures taken { TakesAtMost (MOST_OCTETS + 1) (S.left input.old) (S.left input.new) }
     ensures long { result ≡ Status.TooLong → TakesTooMany (S.left input.old) (S.left input.new) }
     ensures write { result ≡ Status.WriteFault → Rose (K.faults output.old) (K.faults output.new) }
 {
     match Command::of(args) {
         None => finish(output, Status::BadWords, USAGE),
-        Some(Command::Replay) => run_replay(alloc, input, output),
+        Some(command) => run_command(alloc, command, input, output),
     }
 }
 
-/// Reads the input, replays it, and writes the reply.
-fn run_replay<S: Source, K: Sink>(alloc: Global, input: &mut S, output: &mut K) -> Status
+/// Reads the command's input to its end, and writes the reply.
+fn run_command<S: Source, K: Sink>(
+    alloc: Global,
+    command: Command,
+    input: &mut S,
+    output: &mut K,
+) -> Status
     ensures reply { Answers (Rose (S.faults input.old) (S.faults input.new))
-        (reply_to (Some Replay) (S.left input.old))
+        (reply_to (Some command) (S.left input.old))
         (K.held output.old) (K.held output.new) result }
     ensures words { result ≢ Status.BadWords }
     ensures read { result ≡ Status.ReadFault → Rose (S.faults input.old) (S.faults input.new) }
     ensures read_line { SaysIfReadFault result (K.held output.old) (K.held output.new) }
     ensures read_end { IsOfText result → IsDrained (S.left input.new) }
+    ensures taken { TakesAtMost (MOST_OCTETS + 1) (S.left input.old) (S.left input.new) }
     ensures long { result ≡ Status.TooLong → TakesTooMany (S.left input.old) (S.left input.new) }
     ensures write { result ≡ Status.WriteFault → Rose (K.faults output.old) (K.faults output.new) }
 {
     match read_input(alloc, input) {
-        Input::Text(text) => match reply_to_text(alloc, &text) {
+        Input::Text(text) => match reply_to_text(alloc, command, &text) {
             Ok(reply) => finish(output, reply.status, &reply.octets),
             Err(Memory) => Status::Memory,
         },

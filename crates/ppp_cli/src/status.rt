@@ -9,7 +9,7 @@ pub enum Status {
     ReadFault,
     /// The input has more than 1,048,576 octets.
     TooLong,
-    /// The line of that number, from 1, is the first of the script that is refused.
+    /// The line of that number, from 1, is the first that is refused: of the script, or of the capture.
     BadLine(u32),
     /// The step of that number, from 1, would make a span wider than 255.
     Outstanding(u32),

@@ -7,6 +7,8 @@ use std::process::Abort;
 
 const REPLAY: &[&str] = &["replay"];
 
+const SHOW: &[&str] = &["show"];
+
 const USAGE: &str =
     "usage: pppd replay, feed, show, vectors, soak SEED COUNT, serve TURNS, pair TURNS\n";
 
@@ -152,7 +154,7 @@ fn replays_what_was_worked_out(rt: HostRuntime) {
 #[test]
 fn replies_to_words_and_settings(rt: HostRuntime) {
     // words, an input, the status, and the output
-    let rows: [(&[&str], &str, Status, &str); 10] = [
+    let rows: [(&[&str], &str, Status, &str); 11] = [
         // both ends open
         (
             REPLAY,
@@ -177,11 +179,47 @@ fn replies_to_words_and_settings(rt: HostRuntime) {
         (&["soak", "01", "5"], FIRST_RUN, Status::BadWords, USAGE),
         (&["replay", "replay"], FIRST_RUN, Status::BadWords, USAGE),
         (&["replay", "x"], FIRST_RUN, Status::BadWords, USAGE),
+        (&["show", "x"], "", Status::BadWords, USAGE),
     ];
     for (words, input, status, output) in rows {
         let (answered, written) = run_over(rt.alloc(), &rt, words, input.as_bytes());
         assert_eq!(rt; answered, status, "at {input:?}");
         assert_eq!(rt; written.as_slice(), output.as_bytes(), "at {input:?}");
+    }
+}
+
+#[test]
+fn shows_what_a_capture_holds(rt: HostRuntime) {
+    // a capture, the status, and the output
+    let rows: [(&str, Status, &str); 6] = [
+        ("", Status::Ok, ""),
+        // a frame whose information ends with an escaped flag, cut in that escape
+        (
+            "7eff7d23c0217d2b7d217d207d297d207d207d207d207d\n5ed97f7e\n7e\n",
+            Status::Ok,
+            "frame c021 0b010009000000007e Discard-Request id 1 data 000000007e\n",
+        ),
+        // an escape before the flag, a wrong check sequence, three octets, and two frames, the first with a short header
+        (
+            "7eff7d7e\nff7d23c0217d2c7d277d207d2487e97e\n0102037e\n3132333435363738396e907e\n\
+             ff7d23c0217d2c7d277d207d2487e87e\n",
+            Status::Ok,
+            "discard Aborted\ndiscard BadFcs\ndiscard Short\nframe 0031 3233343536373839\n\
+             frame c021 0c070004 Code-12 id 7\n",
+        ),
+        // an empty line, and lines that aren't pairs of hex digits
+        ("\n7e\r\n", Status::Ok, ""),
+        (
+            "7e214500f5a77e\n\n7e7\n",
+            Status::BadLine(3),
+            "line 3 Event\n",
+        ),
+        ("# a remark\n", Status::BadLine(1), "line 1 Event\n"),
+    ];
+    for (capture, status, output) in rows {
+        let (answered, written) = run_over(rt.alloc(), &rt, SHOW, capture.as_bytes());
+        assert_eq!(rt; answered, status, "at {capture:?}");
+        assert_eq!(rt; written.as_slice(), output.as_bytes(), "at {capture:?}");
     }
 }
 

@@ -2,6 +2,7 @@ use Rattle.std.proofs.Common.{◌≡◌, ◌∙◌, refl}
 use Rattle.ppp_cli.specs.Command.{command_in}
 use Rattle.ppp_cli.specs.Process.{MayEnd, words_in}
 use Rattle.ppp_cli.proofs.AnswerLemmas.{answers_memory}
+use Rattle.ppp_cli.proofs.InputLemmas.{takes_none}
 use Rattle.ppp_cli.specs.declared.status.Status.TheVariants.{Memory}
 use Rattle.ppp_cli.proofs.process.run_args.Goals as goal
 
@@ -17,6 +18,7 @@ returns-in-Ok g c =
       read_rose = c.ppp_run.ensures.read;
       read_words = c.ppp_run.ensures.read_words;
       read_end = c.ppp_run.ensures.read_end;
+      taken = c.ppp_run.ensures.taken;
       long = c.ppp_run.ensures.long;
       write_rose = c.ppp_run.ensures.write;
     } in
@@ -33,6 +35,7 @@ returns-in-Err g c = (
     read_rose = λ e. cc;
     read_words = λ e. cc;
     read_end = λ e. absurd e;
+    taken = takes_none _ _;
     long = λ e. cc;
     write_rose = λ e. cc;
   },

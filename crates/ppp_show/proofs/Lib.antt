@@ -1,0 +1,4 @@
+pub mod HexLineLemmas
+pub mod HexTextLemmas
+pub mod RestTextLemmas
+pub mod ShownLemmas

@@ -1,0 +1,9 @@
+pub mod CodeName
+pub mod DiscardLine
+pub mod FrameLine
+pub mod HexLine
+pub mod PacketText
+pub mod RestText
+pub mod ShowFault
+pub mod Shown
+pub mod Stream
