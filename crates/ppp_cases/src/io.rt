@@ -1,4 +1,6 @@
-use super::*;
+//! The adapters over std, and what a want of memory prints as. The devices in memory stand in the runs of `ppp_rows`.
+
+use ppp_io::{Memory, ReadGot, Sink, Source, StdSink, StdSource, Wrote};
 use std::alloc::AllocFailed;
 use std::io;
 use std::io::{ErrorKind, Read, Write};
@@ -70,58 +72,6 @@ fn check_writes<K: Sink>(rt: &impl Abort, sink: &mut K, rows: &[(&[u8], Wrote)])
             assert_eq!(rt; sink.write(piece), *answer);
         }
     }
-}
-
-#[test]
-fn sources_in_memory_give_chunks_and_fail_where_listed(rt: HostRuntime) -> Result<(), Fail> {
-    let octets = Vec::from_slice(rt.alloc(), b"abcdefgh")?;
-    let failing = vec![in rt.alloc(); 2, 5]?;
-    let mut source = MemSource::new(octets, 3, failing);
-    let rows: [(ReadGot, &[u8]); 7] = [
-        (ReadGot::Got(3), b"abc"),
-        (ReadGot::Failed, b""),
-        (ReadGot::Got(3), b"def"),
-        (ReadGot::Got(2), b"gh"),
-        (ReadGot::Failed, b""),
-        (ReadGot::End, b""),
-        (ReadGot::End, b""),
-    ];
-    check_reads(&rt, &mut source, &rows);
-    assert_eq!(rt; source.faults(), 2);
-
-    let mut sure = SureSource::new(Vec::from_slice(rt.alloc(), b"abcdef")?, 9);
-    let rows: [(ReadGot, &[u8]); 3] = [
-        (ReadGot::Got(4), b"abcd"),
-        (ReadGot::Got(2), b"ef"),
-        (ReadGot::End, b""),
-    ];
-    check_reads(&rt, &mut sure, &rows);
-    Ok(())
-}
-
-#[test]
-fn sinks_in_memory_hold_what_fits_and_fail_where_listed(rt: HostRuntime) -> Result<(), Fail> {
-    let mut sink = MemSink::new(rt.alloc(), 5, vec![in rt.alloc(); 2]?)?;
-    let rows: [(&[u8], Wrote); 5] = [
-        (b"ab", Wrote::Took(2)),
-        (b"cd", Wrote::Failed),
-        (b"cd", Wrote::Took(2)),
-        (b"efg", Wrote::Took(1)),
-        (b"fg", Wrote::Failed),
-    ];
-    check_writes(&rt, &mut sink, &rows);
-    assert!(rt; sink.octets() == b"abcde".as_slice());
-    assert_eq!(rt; sink.faults(), 2);
-
-    let mut sure = SureSink::new(rt.alloc(), 5)?;
-    let rows: [(&[u8], Wrote); 2] = [(b"abcd", Wrote::Took(4)), (b"e", Wrote::Took(1))];
-    check_writes(&rt, &mut sure, &rows);
-    assert!(rt; !sure.is_past_room());
-    let rows: [(&[u8], Wrote); 2] = [(b"fg", Wrote::Took(2)), (b"h", Wrote::Took(1))];
-    check_writes(&rt, &mut sure, &rows);
-    assert!(rt; sure.octets() == b"abcde".as_slice());
-    assert!(rt; sure.is_past_room());
-    Ok(())
 }
 
 #[test]

@@ -1,5 +1,7 @@
-use super::*;
-use std::alloc::{AllocFailed, Global};
+//! Frames that RFC 1662 and the formats spell out, in every cutting, and streams that are no frames.
+
+use ppp_frame::{Deframer, Fed, Form, FrameBuf, Got, Why, encode, fcs};
+use std::alloc::Global;
 use std::process::Abort;
 use std::test::Fail;
 
@@ -38,11 +40,6 @@ static FRAMES: [(Form, u16, &[u8], &[u8]); 4] = [
     (SHORT, 0x0021, b"\x45\x00", b"\x7e\x21\x45\x00\xf5\xa7\x7e"),
 ];
 
-#[test]
-fn the_check_sequence_of_nine_digits_is_906e(rt: HostRuntime) {
-    assert_eq!(rt; fcs(b"123456789"), 0x906e);
-}
-
 // What a deframer answers to these octets in pieces of so many, but for More.
 fn answers(
     alloc: Global,
@@ -77,6 +74,7 @@ fn check_frame(rt: &impl Abort, deframer: &Deframer, protocol: u16, info: &[u8])
 
 #[test]
 fn frames_are_written_as_the_table_says_and_read_back(rt: HostRuntime) -> Result<(), Fail> {
+    assert_eq!(rt; fcs(b"123456789"), 0x906e);
     let mut out = FrameBuf::new(rt.alloc())?;
     let mut deframer = Deframer::new(rt.alloc(), 8200)?;
     deframer.set_short(true, true);
@@ -197,16 +195,5 @@ fn hostile_streams_end_at_their_flags(rt: HostRuntime) -> Result<(), Fail> {
             assert!(rt; answered.as_slice() == [Got::Frame].as_slice());
         }
     }
-    Ok(())
-}
-
-#[test]
-fn too_much_information_is_refused_and_leaves_the_frame(rt: HostRuntime) -> Result<(), Fail> {
-    let mut out = FrameBuf::new(rt.alloc())?;
-    let zeros = vec![in rt.alloc(); 0; MOST_INFO + 1]?;
-    assert!(rt; encode(&mut out, WHOLE, 0xc021, &zeros[..MOST_INFO]) == Ok(()));
-    let size = out.octets().len();
-    assert!(rt; encode(&mut out, WHOLE, 0xc021, &zeros) == Err(TooLong));
-    assert_eq!(rt; out.octets().len(), size);
     Ok(())
 }
