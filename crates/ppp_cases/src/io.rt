@@ -1,11 +1,9 @@
-//! The adapters over std, and what a want of memory prints as. The devices in memory stand in the runs of `ppp_rows`.
+//! The adapters over std. The devices in memory stand in the runs of `ppp_rows`.
 
-use ppp_io::{Memory, ReadGot, Sink, Source, StdSink, StdSource, Wrote};
-use std::alloc::AllocFailed;
+use ppp_io::{ReadGot, Sink, Source, StdSink, StdSource, Wrote};
 use std::io;
 use std::io::{ErrorKind, Read, Write};
 use std::process::Abort;
-use std::test::Fail;
 
 // A reader that fails.
 #[derive(Drop)]
@@ -125,15 +123,4 @@ fn adapters_try_an_interrupted_call_again(rt: HostRuntime) {
         let mut sink = StdSink::new(Interrupted { times, inner });
         check_writes(&rt, &mut sink, &[(b"ab", wrote)]);
     }
-}
-
-#[test]
-fn want_of_memory_says_so(rt: HostRuntime) -> Result<(), Fail> {
-    let refused = Memory::from(AllocFailed { value: 7u8 });
-    assert_eq!(rt; refused, Memory);
-    assert_eq!(rt;
-        format!(in rt.alloc(); "{refused}")?.as_str(),
-        "out of memory"
-    );
-    Ok(())
 }

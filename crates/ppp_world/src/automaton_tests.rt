@@ -47,9 +47,6 @@ const PLAIN_ACK: &[u8] = &[2, 1, 0, 4];
 /// The Configure-Ack of the first own request.
 const ACK: &[u8] = &[2, 1, 0, 10, 5, 6, 0, 0, 0, 4];
 
-/// The first own request.
-const FIRST: &[u8] = &[1, 1, 0, 10, 5, 6, 0, 0, 0, 4];
-
 /// The second own request, with the list of the first.
 const SECOND: &[u8] = &[1, 2, 0, 10, 5, 6, 0, 0, 0, 4];
 
@@ -177,6 +174,7 @@ fn rejects_after_five_naks_without_an_ack(rt: HostRuntime) -> Result<(), Fail> {
         assert!(rt; sends_exactly(&out, sent), "the answer to {came:?}");
     }
     assert_eq!(rt; automaton.state(), AutoState::ReqSent);
+    assert!(rt; automaton.timer_on());
     Ok(())
 }
 
@@ -353,23 +351,5 @@ fn cuts_a_code_reject_to_the_cap(rt: HostRuntime) -> Result<(), Fail> {
     automaton.packet(&came, WORD, &mut out);
     assert!(rt; sends_exactly(&out, &sent), "128 octets");
     assert_eq!(rt; automaton.state(), AutoState::Opened);
-    Ok(())
-}
-
-#[test]
-fn gives_up_after_ten_requests(rt: HostRuntime) -> Result<(), Fail> {
-    let mut out = Outbox::new(rt.alloc())?;
-    let mut automaton = end_after(&[OPEN], &mut out);
-    automaton.event(AutoEvent::Up, OWN, &mut out);
-    // a timeout sends the same request again
-    for time in 1..=10 {
-        assert!(rt; sends_exactly(&out, FIRST), "request {time}");
-        assert_eq!(rt; automaton.state(), AutoState::ReqSent);
-        automaton.event(AutoEvent::Timeout, WORD, &mut out);
-    }
-    let finished = Entry::Signal(LayerSignal::Finished);
-    assert!(rt; has_exactly(&out, &[finished]), "the tenth timeout");
-    assert_eq!(rt; automaton.state(), AutoState::Stopped);
-    assert!(rt; !automaton.timer_on());
     Ok(())
 }
