@@ -15,32 +15,33 @@ impl Read for Broken {
     }
 }
 
-// A reader or a writer that is interrupted so many times at first.
+// A reader or a writer that fails by this kind so many times at first.
 #[derive(Drop)]
-struct Interrupted<T: Drop> {
+struct Failing<T: Drop> {
     times: u32,
+    kind: ErrorKind,
     inner: T,
 }
 
-impl<T: Drop> Interrupted<T> {
-    // Counts a call, and fails as long as it is interrupted.
+impl<T: Drop> Failing<T> {
+    // Counts a call, and fails as long as that is to be.
     fn call(&mut self) -> io::Result<()> {
         if self.times == 0 {
             return Ok(());
         }
         self.times -= 1;
-        Err(io::Error::from(ErrorKind::Interrupted))
+        Err(io::Error::from(self.kind))
     }
 }
 
-impl<R: Read + Drop> Read for Interrupted<R> {
+impl<R: Read + Drop> Read for Failing<R> {
     fn read(&mut self, buf: &mut [u8]) -> io::Result<usize> {
         self.call()?;
         self.inner.read(buf)
     }
 }
 
-impl<W: Write + Drop> Write for Interrupted<W> {
+impl<W: Write + Drop> Write for Failing<W> {
     fn write(&mut self, buf: &[u8]) -> io::Result<usize> {
         self.call()?;
         self.inner.write(buf)
@@ -107,20 +108,20 @@ fn adapters_count_the_faults_of_std(rt: HostRuntime) {
 }
 
 #[test]
-fn adapters_try_an_interrupted_call_again(rt: HostRuntime) {
-    // how many calls are interrupted, and the answers of a read and of a write
-    let rows: [(u32, ReadGot, Wrote); 3] = [
-        (1, ReadGot::Got(2), Wrote::Took(2)),
-        (99, ReadGot::Got(2), Wrote::Took(2)),
-        (100, ReadGot::Failed, Wrote::Failed),
+fn adapters_try_an_interrupted_call_again_and_no_other(rt: HostRuntime) {
+    // how many calls fail and how, and the answers of a read and of a write
+    let rows: [(u32, ErrorKind, ReadGot, Wrote); 3] = [
+        (99, ErrorKind::Interrupted, ReadGot::Got(2), Wrote::Took(2)),
+        (100, ErrorKind::Interrupted, ReadGot::Failed, Wrote::Failed),
+        (1, ErrorKind::TimedOut, ReadGot::Failed, Wrote::Failed),
     ];
-    for (times, got, wrote) in rows {
+    for (times, kind, got, wrote) in rows {
         let inner = b"ab".as_slice();
-        let mut source = StdSource::new(Interrupted { times, inner });
+        let mut source = StdSource::new(Failing { times, kind, inner });
         check_reads(&rt, &mut source, &[(got, b"ab")]);
         let mut room = [0u8; 2];
         let inner = room.as_mut_slice();
-        let mut sink = StdSink::new(Interrupted { times, inner });
+        let mut sink = StdSink::new(Failing { times, kind, inner });
         check_writes(&rt, &mut sink, &[(b"ab", wrote)]);
     }
 }
