@@ -2,8 +2,6 @@ pub mod Answer
 pub mod Auto
 pub mod AutoState
 pub mod Automaton
-pub mod BareTable
-pub mod BareTableLaw
 pub mod EventTable
 pub mod Front
 pub mod Judged

@@ -114,9 +114,7 @@ impl Judged {
             self.front.put(better.kind(), better.body());
         }
     }
-}
 
-impl Judged {
     /// Whether options are rejected: some are, or some are bad and Configure-Naks are spent.
     pub(crate) fn rejects(&self) -> bool
         ensures { result ≡ (self.now.refused || (self.now.bad && self.now.spent)) }

@@ -25,8 +25,6 @@ mod option_table;
 mod outbox;
 mod reply;
 mod taken;
-#[cfg(test)]
-mod tests;
 mod verdict;
 
 pub use action::Action;

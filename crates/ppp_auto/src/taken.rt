@@ -67,23 +67,6 @@ impl<'p, 'j> Taken<'p, 'j> {
     }
 }
 
-impl<'p, 'j> Taken<'p, 'j> {
-    /// A Configure-Nak or Configure-Reject of the last request, which leads to that own list.
-    fn adapting(id: u8, list: OptList) -> Taken<'p, 'j>
-        ensures { IsAdapting id list result }
-    {
-        Taken {
-            input: Some(Input::ReceiveConfigureNak),
-            id,
-            answer: None,
-            adapted: Some(list),
-            theirs: None,
-            whole: &[],
-            rejects: None,
-        }
-    }
-}
-
 /// What an event without a packet is.
 pub(crate) fn input_of(auto: &Auto, event: AutoEvent) -> Input
     ensures { result ≡ input_of (auto_seen auto.now) event }
@@ -135,13 +118,9 @@ pub(crate) fn request_taken<'p, 'j, T: OptionTable>(
 {
     let reply = reply_to(table, auto, judged, id, theirs, octets, word);
     Taken {
-        input: Some(reply.input),
-        id,
         answer: Some(reply.answer),
-        adapted: None,
         theirs: Some(theirs.copied()),
-        whole: &[],
-        rejects: None,
+        ..Taken::plain(Some(reply.input), id)
     }
 }
 
@@ -194,7 +173,7 @@ fn nak_taken<'a, T: OptionTable>(
     if !is_nak_of(auto, id, options) {
         return Taken::plain(None, id);
     }
-    Taken::adapting(id, table.adapt_nak(&auto.own, options, word))
+    adapting(id, table.adapt_nak(&auto.own, options, word))
 }
 
 /// What a Configure-Reject is.
@@ -210,7 +189,16 @@ fn reject_taken<'a, T: OptionTable>(
     if !is_reject_of(auto, id, options) {
         return Taken::plain(None, id);
     }
-    Taken::adapting(id, table.adapt_reject(&auto.own, options, word))
+    adapting(id, table.adapt_reject(&auto.own, options, word))
+}
+
+/// A Configure-Nak or Configure-Reject of the last request, which leads to that own list.
+fn adapting<'a>(id: u8, list: OptList) -> Taken<'a, 'a>
+    ensures { IsAdapting id list result }
+{
+    let mut taken = Taken::plain(Some(Input::ReceiveConfigureNak), id);
+    taken.adapted = Some(list);
+    taken
 }
 
 /// Whether no request is under way, so that the last one isn't looked at.

@@ -36,6 +36,3 @@ pub use header::{ALL_STATIONS, LCP, UNNUMBERED};
 pub use law::read_back;
 pub use too_long::TooLong;
 pub use why::Why;
-
-#[cfg(test)]
-mod tests;

@@ -7,3 +7,4 @@ pub mod MemSource
 pub mod SureSink
 pub mod MemSink
 pub mod StdDevice
+pub mod Retry

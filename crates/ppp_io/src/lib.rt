@@ -26,6 +26,3 @@ pub use std_source::StdSource;
 pub use sure_sink::SureSink;
 pub use sure_source::SureSource;
 pub use wrote::Wrote;
-
-#[cfg(test)]
-mod tests;

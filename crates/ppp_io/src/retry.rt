@@ -1,7 +1,9 @@
 //! Calls of std that a signal may interrupt.
 
+ghost use Rattle.std.specs.Prelude.{◌↔◌, IsTrue};
 ghost use Rattle.std.specs.Io.{ReadsAtMost, WritesAtMost};
 ghost use Rattle.std.specs.Io.KnownBytes.{ReadConsumes, WriteAppends};
+ghost use Rattle.ppp_io.specs.Retry.{IsInterrupted};
 
 use std::io;
 use std::io::{Error, ErrorKind, Read, Write};
@@ -16,9 +18,9 @@ pub(crate) fn retry_read<R: Read>(reader: &mut R, buf: &mut [u8]) -> io::Result<
         result buf.new }
 {
     'tries: for _ in 0..TRIES {
-        match reader.read(buf) {
-            Err(error) if error.kind() == ErrorKind::Interrupted => {}
-            answer => return answer,
+        let answer = reader.read(buf);
+        if !is_interrupted(&answer) {
+            return answer;
         }
     }
     Err(Error::from(ErrorKind::Interrupted))
@@ -31,10 +33,20 @@ pub(crate) fn retry_write<W: Write>(writer: &mut W, piece: &[u8]) -> io::Result<
         result piece.now }
 {
     'tries: for _ in 0..TRIES {
-        match writer.write(piece) {
-            Err(error) if error.kind() == ErrorKind::Interrupted => {}
-            answer => return answer,
+        let answer = writer.write(piece);
+        if !is_interrupted(&answer) {
+            return answer;
         }
     }
     Err(Error::from(ErrorKind::Interrupted))
+}
+
+/// Whether a call was interrupted, which alone makes it worth another.
+fn is_interrupted(answer: &io::Result<usize>) -> bool
+    ensures { IsTrue result ↔ IsInterrupted answer.now }
+{
+    match answer {
+        Ok(_) => false,
+        Err(error) => error.kind() == ErrorKind::Interrupted,
+    }
 }

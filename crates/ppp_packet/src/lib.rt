@@ -22,6 +22,3 @@ pub use opt_ref::OptRef;
 pub use options::{MOST_BODY, OPTION_HEADER, Options, read_options};
 pub use packet_ref::{MOST_DATA, PACKET_HEADER, PacketRef, read_packet, write_packet};
 pub use proto::{Proto, UnknownProto};
-
-#[cfg(test)]
-mod tests;

@@ -24,6 +24,3 @@ pub use line::Line;
 pub use line_why::LineWhy;
 pub use script::{MOST_STEPS, Script, read_script};
 pub use script_fault::ScriptFault;
-
-#[cfg(test)]
-mod tests;

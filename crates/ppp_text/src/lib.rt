@@ -18,6 +18,3 @@ pub use lines::split_line;
 pub use numbers::number;
 pub use parts::{Parts, part_input};
 pub use split::split_once;
-
-#[cfg(test)]
-mod tests;

@@ -20,10 +20,10 @@ enum Entry {
 
 /// A step of an end after other steps: the entries that it leads to, and the state then.
 #[derive(Clone, Copy)]
-struct Case<'a> {
-    before: &'a [Step],
+struct Case {
+    before: &'static [Step],
     step: Step,
-    entries: &'a [Entry],
+    entries: &'static [Entry],
     state: AutoState,
 }
 
@@ -39,6 +39,9 @@ const CLOSE: Step = Step::Event(AutoEvent::AdminClose);
 
 const UP: Step = Step::Event(AutoEvent::Up);
 
+/// What the layer above is told where the protocol leaves Opened.
+const DOWN: Entry = Entry::Signal(LayerSignal::Down);
+
 /// A Configure-Request without options, and the Configure-Ack that answers it.
 const PLAIN: &[u8] = &[1, 1, 0, 4];
 
@@ -46,9 +49,6 @@ const PLAIN_ACK: &[u8] = &[2, 1, 0, 4];
 
 /// The Configure-Ack of the first own request.
 const ACK: &[u8] = &[2, 1, 0, 10, 5, 6, 0, 0, 0, 4];
-
-/// The first own request.
-const FIRST: &[u8] = &[1, 1, 0, 10, 5, 6, 0, 0, 0, 4];
 
 /// The second own request, with the list of the first.
 const SECOND: &[u8] = &[1, 2, 0, 10, 5, 6, 0, 0, 0, 4];
@@ -62,6 +62,9 @@ const SMALL_NAK: &[u8] = &[3, 3, 0, 8, 1, 4, 0, 0x80];
 const TERMINATE: &[u8] = &[5, 7, 0, 4];
 
 const TERMINATE_ACK: &[u8] = &[6, 7, 0, 4];
+
+/// The steps to Opened.
+const OPENED: &[Step] = &[OPEN, UP, Step::Packet(PLAIN), Step::Packet(ACK)];
 
 /// Takes a step.
 fn take(automaton: &mut Automaton<LcpTable>, step: Step, word: u64, out: &mut Outbox) {
@@ -104,56 +107,57 @@ fn sends_exactly(out: &Outbox, packet: &[u8]) -> bool {
     out.count() == 1 && matches!(out.at(0), EntryRef::Send(octets) if octets == packet)
 }
 
+// A Configure-Request in Req-Sent, what answers it, and the state then.
+static LISTS: [(&[u8], &[u8], AutoState); 9] = [
+    // Maximum-Receive-Unit and Magic-Number are good
+    (
+        &[1, 9, 0, 14, 1, 4, 5, 0xdc, 5, 6, 0xaa, 0xbb, 0xcc, 0xdd],
+        &[2, 9, 0, 14, 1, 4, 5, 0xdc, 5, 6, 0xaa, 0xbb, 0xcc, 0xdd],
+        AutoState::AckSent,
+    ),
+    (PLAIN, PLAIN_ACK, AutoState::AckSent),
+    (SMALL, SMALL_NAK, AutoState::ReqSent),
+    // an option for the second time
+    (
+        &[1, 5, 0, 12, 1, 4, 5, 0xdc, 1, 4, 5, 0xdc],
+        &[4, 5, 0, 8, 1, 4, 5, 0xdc],
+        AutoState::ReqSent,
+    ),
+    // a Magic-Number of three octets, and the own one
+    (
+        &[1, 4, 0, 9, 5, 5, 0xaa, 0xbb, 0xcc],
+        &[3, 4, 0, 10, 5, 6, 0, 0, 0, 0x2a],
+        AutoState::ReqSent,
+    ),
+    (
+        &[1, 4, 0, 10, 5, 6, 0, 0, 0, 4],
+        &[3, 4, 0, 10, 5, 6, 0, 0, 0, 0x2a],
+        AutoState::ReqSent,
+    ),
+    // options that aren't known: they alone are rejected, before any other is refused
+    (&[1, 1, 0, 6, 7, 2], &[4, 1, 0, 6, 7, 2], AutoState::ReqSent),
+    (
+        &[
+            1, 1, 0, 20, 13, 6, 0, 0, 0, 0, 5, 6, 0xaa, 0xbb, 0xcc, 0xdd, 7, 2, 8, 2,
+        ],
+        &[4, 1, 0, 14, 13, 6, 0, 0, 0, 0, 7, 2, 8, 2],
+        AutoState::ReqSent,
+    ),
+    (
+        &[1, 6, 0, 10, 1, 4, 0, 0x40, 7, 2],
+        &[4, 6, 0, 6, 7, 2],
+        AutoState::ReqSent,
+    ),
+];
+
 #[test]
 fn answers_each_list_in_req_sent(rt: HostRuntime) -> Result<(), Fail> {
     let mut out = Outbox::new(rt.alloc())?;
-    // a Configure-Request in Req-Sent, what answers it, and the state then
-    let rows: [(&[u8], &[u8], AutoState); 9] = [
-        // Maximum-Receive-Unit and Magic-Number are good
-        (
-            &[1, 9, 0, 14, 1, 4, 5, 0xdc, 5, 6, 0xaa, 0xbb, 0xcc, 0xdd],
-            &[2, 9, 0, 14, 1, 4, 5, 0xdc, 5, 6, 0xaa, 0xbb, 0xcc, 0xdd],
-            AutoState::AckSent,
-        ),
-        (PLAIN, PLAIN_ACK, AutoState::AckSent),
-        (SMALL, SMALL_NAK, AutoState::ReqSent),
-        // an option for the second time
-        (
-            &[1, 5, 0, 12, 1, 4, 5, 0xdc, 1, 4, 5, 0xdc],
-            &[4, 5, 0, 8, 1, 4, 5, 0xdc],
-            AutoState::ReqSent,
-        ),
-        // a Magic-Number of three octets, and the own one
-        (
-            &[1, 4, 0, 9, 5, 5, 0xaa, 0xbb, 0xcc],
-            &[3, 4, 0, 10, 5, 6, 0, 0, 0, 0x2a],
-            AutoState::ReqSent,
-        ),
-        (
-            &[1, 4, 0, 10, 5, 6, 0, 0, 0, 4],
-            &[3, 4, 0, 10, 5, 6, 0, 0, 0, 0x2a],
-            AutoState::ReqSent,
-        ),
-        // options that aren't known: they alone are rejected, before any other is refused
-        (&[1, 1, 0, 6, 7, 2], &[4, 1, 0, 6, 7, 2], AutoState::ReqSent),
-        (
-            &[
-                1, 1, 0, 20, 13, 6, 0, 0, 0, 0, 5, 6, 0xaa, 0xbb, 0xcc, 0xdd, 7, 2, 8, 2,
-            ],
-            &[4, 1, 0, 14, 13, 6, 0, 0, 0, 0, 7, 2, 8, 2],
-            AutoState::ReqSent,
-        ),
-        (
-            &[1, 6, 0, 10, 1, 4, 0, 0x40, 7, 2],
-            &[4, 6, 0, 6, 7, 2],
-            AutoState::ReqSent,
-        ),
-    ];
-    for (came, sent, state) in rows {
+    for (came, sent, state) in &LISTS {
         let mut automaton = end_after(&[OPEN, UP], &mut out);
         automaton.packet(came, WORD, &mut out);
         assert!(rt; sends_exactly(&out, sent), "the answer to {came:?}");
-        assert_eq!(rt; automaton.state(), state, "after {came:?}");
+        assert!(rt; automaton.state() == *state, "after {came:?}");
     }
     Ok(())
 }
@@ -177,129 +181,134 @@ fn rejects_after_five_naks_without_an_ack(rt: HostRuntime) -> Result<(), Fail> {
         assert!(rt; sends_exactly(&out, sent), "the answer to {came:?}");
     }
     assert_eq!(rt; automaton.state(), AutoState::ReqSent);
+    assert!(rt; automaton.timer_on());
     Ok(())
 }
+
+// Steps after others, with what they lead to.
+static CASES: [Case; 16] = [
+    Case {
+        before: &[],
+        step: OPEN,
+        entries: &[Entry::Signal(LayerSignal::Started)],
+        state: AutoState::Starting,
+    },
+    // the own request is acknowledged, naked and rejected; an Ack of another isn't looked at
+    Case {
+        before: &[OPEN, UP, Step::Packet(PLAIN)],
+        step: Step::Packet(ACK),
+        entries: &[Entry::Signal(LayerSignal::Up)],
+        state: AutoState::Opened,
+    },
+    Case {
+        before: &[OPEN, UP, Step::Packet(PLAIN)],
+        step: Step::Packet(&[2, 2, 0, 10, 5, 6, 0, 0, 0, 4]),
+        entries: &[],
+        state: AutoState::AckSent,
+    },
+    Case {
+        before: &[OPEN, UP],
+        step: Step::Packet(&[3, 1, 0, 10, 5, 6, 0, 0, 0, 7]),
+        entries: &[Entry::Packet(&[1, 2, 0, 10, 5, 6, 0, 0, 0, 7])],
+        state: AutoState::ReqSent,
+    },
+    Case {
+        before: &[OPEN, UP],
+        step: Step::Packet(&[4, 1, 0, 10, 5, 6, 0, 0, 0, 4]),
+        entries: &[Entry::Packet(&[1, 2, 0, 4])],
+        state: AutoState::ReqSent,
+    },
+    // requests in Opened, good and not
+    Case {
+        before: OPENED,
+        step: Step::Packet(PLAIN),
+        entries: &[DOWN, Entry::Packet(SECOND), Entry::Packet(PLAIN_ACK)],
+        state: AutoState::AckSent,
+    },
+    Case {
+        before: OPENED,
+        step: Step::Packet(SMALL),
+        entries: &[DOWN, Entry::Packet(SECOND), Entry::Packet(SMALL_NAK)],
+        state: AutoState::ReqSent,
+    },
+    // a code that isn't known
+    Case {
+        before: OPENED,
+        step: Step::Packet(&[12, 7, 0, 4]),
+        entries: &[Entry::Packet(&[7, 1, 0, 8, 12, 7, 0, 4])],
+        state: AutoState::Opened,
+    },
+    // an Echo-Request, which is answered in Opened alone, and a Discard-Request
+    Case {
+        before: OPENED,
+        step: Step::Packet(&[9, 5, 0, 8, 0xaa, 0xbb, 0xcc, 0xdd]),
+        entries: &[Entry::Packet(&[10, 5, 0, 8, 0, 0, 0, 4])],
+        state: AutoState::Opened,
+    },
+    Case {
+        before: &[OPEN, UP],
+        step: Step::Packet(&[9, 5, 0, 8, 0xaa, 0xbb, 0xcc, 0xdd]),
+        entries: &[],
+        state: AutoState::ReqSent,
+    },
+    Case {
+        before: OPENED,
+        step: Step::Packet(&[11, 5, 0, 8, 0xaa, 0xbb, 0xcc, 0xdd]),
+        entries: &[],
+        state: AutoState::Opened,
+    },
+    // rejects of a protocol, of a code that can be missed, and of one that can't
+    Case {
+        before: OPENED,
+        step: Step::Packet(&[8, 1, 0, 6, 0xc0, 0x23]),
+        entries: &[Entry::Signal(LayerSignal::ProtocolRejected(0xc023))],
+        state: AutoState::Opened,
+    },
+    Case {
+        before: OPENED,
+        step: Step::Packet(&[7, 1, 0, 8, 12, 7, 0, 4]),
+        entries: &[],
+        state: AutoState::Opened,
+    },
+    Case {
+        before: OPENED,
+        step: Step::Packet(&[7, 1, 0, 8, 1, 1, 0, 4]),
+        entries: &[DOWN, Entry::Packet(&[5, 1, 0, 4])],
+        state: AutoState::Stopping,
+    },
+    // the peer and the administrator end it
+    Case {
+        before: OPENED,
+        step: Step::Packet(TERMINATE),
+        entries: &[DOWN, Entry::Packet(TERMINATE_ACK)],
+        state: AutoState::Stopping,
+    },
+    Case {
+        before: OPENED,
+        step: CLOSE,
+        entries: &[DOWN, Entry::Packet(&[5, 1, 0, 4])],
+        state: AutoState::Closing,
+    },
+];
 
 #[test]
 fn follows_the_event_table(rt: HostRuntime) -> Result<(), Fail> {
     let mut out = Outbox::new(rt.alloc())?;
-    let (plain, ack) = (Step::Packet(PLAIN), Step::Packet(ACK));
-    let opened = [OPEN, UP, plain, ack];
-    let down = Entry::Signal(LayerSignal::Down);
-    let cases = [
-        Case {
-            before: &[],
-            step: OPEN,
-            entries: &[Entry::Signal(LayerSignal::Started)],
-            state: AutoState::Starting,
-        },
-        // the own request is acknowledged, naked and rejected; an Ack of another isn't looked at
-        Case {
-            before: &[OPEN, UP, plain],
-            step: ack,
-            entries: &[Entry::Signal(LayerSignal::Up)],
-            state: AutoState::Opened,
-        },
-        Case {
-            before: &[OPEN, UP, plain],
-            step: Step::Packet(&[2, 2, 0, 10, 5, 6, 0, 0, 0, 4]),
-            entries: &[],
-            state: AutoState::AckSent,
-        },
-        Case {
-            before: &[OPEN, UP],
-            step: Step::Packet(&[3, 1, 0, 10, 5, 6, 0, 0, 0, 7]),
-            entries: &[Entry::Packet(&[1, 2, 0, 10, 5, 6, 0, 0, 0, 7])],
-            state: AutoState::ReqSent,
-        },
-        Case {
-            before: &[OPEN, UP],
-            step: Step::Packet(&[4, 1, 0, 10, 5, 6, 0, 0, 0, 4]),
-            entries: &[Entry::Packet(&[1, 2, 0, 4])],
-            state: AutoState::ReqSent,
-        },
-        // requests in Opened, good and not
-        Case {
-            before: &opened,
-            step: plain,
-            entries: &[down, Entry::Packet(SECOND), Entry::Packet(PLAIN_ACK)],
-            state: AutoState::AckSent,
-        },
-        Case {
-            before: &opened,
-            step: Step::Packet(SMALL),
-            entries: &[down, Entry::Packet(SECOND), Entry::Packet(SMALL_NAK)],
-            state: AutoState::ReqSent,
-        },
-        // a code that isn't known
-        Case {
-            before: &opened,
-            step: Step::Packet(&[12, 7, 0, 4]),
-            entries: &[Entry::Packet(&[7, 1, 0, 8, 12, 7, 0, 4])],
-            state: AutoState::Opened,
-        },
-        // an Echo-Request, which is answered in Opened alone, and a Discard-Request
-        Case {
-            before: &opened,
-            step: Step::Packet(&[9, 5, 0, 8, 0xaa, 0xbb, 0xcc, 0xdd]),
-            entries: &[Entry::Packet(&[10, 5, 0, 8, 0, 0, 0, 4])],
-            state: AutoState::Opened,
-        },
-        Case {
-            before: &[OPEN, UP],
-            step: Step::Packet(&[9, 5, 0, 8, 0xaa, 0xbb, 0xcc, 0xdd]),
-            entries: &[],
-            state: AutoState::ReqSent,
-        },
-        Case {
-            before: &opened,
-            step: Step::Packet(&[11, 5, 0, 8, 0xaa, 0xbb, 0xcc, 0xdd]),
-            entries: &[],
-            state: AutoState::Opened,
-        },
-        // rejects of a protocol, of a code that can be missed, and of one that can't
-        Case {
-            before: &opened,
-            step: Step::Packet(&[8, 1, 0, 6, 0xc0, 0x23]),
-            entries: &[Entry::Signal(LayerSignal::ProtocolRejected(0xc023))],
-            state: AutoState::Opened,
-        },
-        Case {
-            before: &opened,
-            step: Step::Packet(&[7, 1, 0, 8, 12, 7, 0, 4]),
-            entries: &[],
-            state: AutoState::Opened,
-        },
-        Case {
-            before: &opened,
-            step: Step::Packet(&[7, 1, 0, 8, 1, 1, 0, 4]),
-            entries: &[down, Entry::Packet(&[5, 1, 0, 4])],
-            state: AutoState::Stopping,
-        },
-        // the peer and the administrator end it
-        Case {
-            before: &opened,
-            step: Step::Packet(TERMINATE),
-            entries: &[down, Entry::Packet(TERMINATE_ACK)],
-            state: AutoState::Stopping,
-        },
-        Case {
-            before: &opened,
-            step: CLOSE,
-            entries: &[down, Entry::Packet(&[5, 1, 0, 4])],
-            state: AutoState::Closing,
-        },
-    ];
-    for Case {
-        before,
-        step,
-        entries,
-        state,
-    } in cases {
-        let mut automaton = end_after(before, &mut out);
-        take(&mut automaton, step, WORD, &mut out);
-        assert!(rt; has_exactly(&out, entries), "at {step:?} after {before:?}");
-        assert_eq!(rt; automaton.state(), state, "at {step:?} after {before:?}");
+    for case in &CASES {
+        let mut automaton = end_after(case.before, &mut out);
+        take(&mut automaton, case.step, WORD, &mut out);
+        assert!(rt;
+            has_exactly(&out, case.entries),
+            "at {:?} after {:?}",
+            case.step,
+            case.before
+        );
+        assert!(rt;
+            automaton.state() == case.state,
+            "at {:?} after {:?}",
+            case.step,
+            case.before
+        );
     }
     Ok(())
 }
@@ -343,8 +352,7 @@ fn discards_what_is_cut_short_in_each_state(rt: HostRuntime) -> Result<(), Fail>
 #[test]
 fn cuts_a_code_reject_to_the_cap(rt: HostRuntime) -> Result<(), Fail> {
     let mut out = Outbox::new(rt.alloc())?;
-    let opened = [OPEN, UP, Step::Packet(PLAIN), Step::Packet(ACK)];
-    let mut automaton = end_after(&opened, &mut out);
+    let mut automaton = end_after(OPENED, &mut out);
     automaton.set_cap(128);
     let mut came = [0x55; 200];
     came[..4].copy_from_slice(&[12, 7, 0, 200]);
@@ -353,23 +361,5 @@ fn cuts_a_code_reject_to_the_cap(rt: HostRuntime) -> Result<(), Fail> {
     automaton.packet(&came, WORD, &mut out);
     assert!(rt; sends_exactly(&out, &sent), "128 octets");
     assert_eq!(rt; automaton.state(), AutoState::Opened);
-    Ok(())
-}
-
-#[test]
-fn gives_up_after_ten_requests(rt: HostRuntime) -> Result<(), Fail> {
-    let mut out = Outbox::new(rt.alloc())?;
-    let mut automaton = end_after(&[OPEN], &mut out);
-    automaton.event(AutoEvent::Up, OWN, &mut out);
-    // a timeout sends the same request again
-    for time in 1..=10 {
-        assert!(rt; sends_exactly(&out, FIRST), "request {time}");
-        assert_eq!(rt; automaton.state(), AutoState::ReqSent);
-        automaton.event(AutoEvent::Timeout, WORD, &mut out);
-    }
-    let finished = Entry::Signal(LayerSignal::Finished);
-    assert!(rt; has_exactly(&out, &[finished]), "the tenth timeout");
-    assert_eq!(rt; automaton.state(), AutoState::Stopped);
-    assert!(rt; !automaton.timer_on());
     Ok(())
 }

@@ -33,5 +33,3 @@ pub use world_fault::WorldFault;
 mod automaton_tests;
 #[cfg(test)]
 mod lcp_tests;
-#[cfg(test)]
-mod world_tests;
