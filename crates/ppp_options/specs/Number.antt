@@ -1,5 +1,6 @@
 -- Numbers in the bodies of options, the highest octet first, and numbers that are drawn.
 use Rattle.std.specs.Prelude.{ℕ, ◌+◌, ◌*◌, ◌/◌, ◌%◌, ◌^◌, Bool, not, ◌&&◌, ◌==◌, nat_le, if◌then◌else◌, List, [], ◌∷◌, length, Option, Some, None}
+use Rattle.ppp_auto.specs.Taken.{four_octets}
 use Rattle.ppp_packet.specs.ConfigOption.{ConfigOption}
 
 -- the number in octets
@@ -54,3 +55,11 @@ pick word avoid = pick_from (2 ^ 32) (word % 2 ^ 32) avoid
 
 unfoldable pub pick64 : ℕ → ℕ → ℕ
 pick64 word avoid = pick_from (2 ^ 64) (word % 2 ^ 64) avoid
+
+-- What stands after a Nak of a number that two ends are not to have alike: the other number, where it is neither 0 nor
+-- the last one, and else a drawn one. A body of another length changes nothing.
+abbrev pub number_taken : List ℕ → List ℕ → ℕ → List ℕ
+number_taken last nak word =
+    if not (length nak == 4) then last
+    else if is_free (number last) (number nak) then nak
+    else four_octets (pick word (number last))

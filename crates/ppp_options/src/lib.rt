@@ -12,7 +12,8 @@ mod option_rules;
 mod own_list;
 
 pub use number::{
-    is_free, number_u16, number_u32, number_u64, octets_u16, octets_u32, octets_u64, pick, pick64,
+    is_free, is_new_u32, is_new_u64, is_within_u16, number_taken, number_u16, number_u32, number_u64, octets_u16,
+    octets_u32, octets_u64, pick, pick64,
 };
 pub use option_rules::OptionRules;
 pub use own_list::{

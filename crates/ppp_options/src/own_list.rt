@@ -77,7 +77,7 @@ pub fn first_of<'a>(list: &Options<'a>, kind: u8) -> Option<&'a [u8]>
 }
 
 /// The body of the first option of this Type with that many octets. None exactly where the list has none.
-fn sized_of<'a>(list: &Options<'a>, kind: u8, size: usize) -> Option<&'a [u8]>
+pub fn sized_of<'a>(list: &Options<'a>, kind: u8, size: usize) -> Option<&'a [u8]>
     ensures { MatchOption result (body_of kind size list.now ≡ None)
         (λ body. body_of kind size list.now ≡ Some body.now × (length body.now ≡ size)) }
 {

@@ -1,0 +1,4 @@
+pub mod LcpKind
+pub mod LcpLaw
+pub mod LcpRanges
+pub mod LcpTable
