@@ -20,9 +20,9 @@ use Rattle.ppp_options.specs.RuleLaw.{and-both, both-and}
 use Rattle.ppp_options.specs.Rules.{IsTable, Sendable, Allows}
 use Rattle.ppp_lcp.specs.LcpKind.{kind_number}
 use Rattle.ppp_lcp.specs.LcpRanges.{is_mrru, are_classes, is_disc_body, is_classes_body}
-use Rattle.ppp_lcp.specs.LcpTable.{mru_rule, accm_after, accm_rule, magic_rule, flag_rule, pfc_rule, acfc_rule, mrru_rule, short_rule, disc_body, disc_rule, is_link_disc, link_disc_rule, is_own_form, own_code, has_classes, nearest, better_form, classes_rule, lcp_rules, is_multilink, asks_short}
+use Rattle.ppp_lcp.specs.LcpTable.{lcp_rule, mru_rule, accm_after, accm_rule, magic_rule, flag_rule, pfc_rule, acfc_rule, mrru_rule, short_rule, disc_body, disc_rule, is_link_disc, link_disc_rule, is_own_form, own_code, has_classes, nearest, better_form, classes_rule, lcp_rules, is_multilink, asks_short}
 use Rattle.ppp_lcp.specs.declared.lcp_kind.LcpKind.{LcpKind}
-use Rattle.ppp_lcp.specs.declared.lcp_kind.LcpKind.TheVariants.{Magic, Pfc, Acfc, Short}
+use Rattle.ppp_lcp.specs.declared.lcp_kind.LcpKind.TheVariants.{Mru, Accm, Magic, Pfc, Acfc, Mrru, Short, Disc, LinkDisc, Classes}
 use Rattle.ppp_lcp.specs.declared.lcp_table.LcpTable.{LcpTable}
 
 -- what is asked for, if anything is, is the one body
@@ -291,10 +291,23 @@ classes_is_rule t = record {
   better_short = λ own body word. better-long body;
 }
 
+-- each row by its Type
+pub kind_is_rule : (t : LcpTable) (kind : LcpKind) → IsRule (lcp_rule t kind)
+kind_is_rule t Mru = mru_is_rule t
+kind_is_rule t Accm = accm_is_rule t
+kind_is_rule t Magic = magic_is_rule t
+kind_is_rule t Pfc = flag_is_rule Pfc t.pfc true
+kind_is_rule t Acfc = flag_is_rule Acfc t.acfc true
+kind_is_rule t Mrru = mrru_is_rule t
+kind_is_rule t Short = flag_is_rule Short (asks_short t) (is_multilink t)
+kind_is_rule t Disc = disc_is_rule t
+kind_is_rule t LinkDisc = link_is_rule t
+kind_is_rule t Classes = classes_is_rule t
+
 pub lcp_is_table : (t : LcpTable) → IsTable (lcp_rules t)
 lcp_is_table t = record {
   ascending = refl;
-  each = (mru_is_rule t, (accm_is_rule t, (magic_is_rule t, (flag_is_rule Pfc t.pfc true, (flag_is_rule Acfc t.acfc true, (mrru_is_rule t, (flag_is_rule Short (asks_short t) (is_multilink t), (disc_is_rule t, (link_is_rule t, (classes_is_rule t, tt))))))))));
+  each = (kind_is_rule t Mru, (kind_is_rule t Accm, (kind_is_rule t Magic, (kind_is_rule t Pfc, (kind_is_rule t Acfc, (kind_is_rule t Mrru, (kind_is_rule t Short, (kind_is_rule t Disc, (kind_is_rule t LinkDisc, (kind_is_rule t Classes, tt))))))))));
   fits = omega arith;
   few = omega arith;
 }

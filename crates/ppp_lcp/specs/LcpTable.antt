@@ -197,10 +197,3 @@ abbrev pub lcp_rules : LcpTable → List Rule
 lcp_rules t =
     mru_rule t ∷ accm_rule t ∷ magic_rule t ∷ pfc_rule t ∷ acfc_rule t ∷ mrru_rule t ∷ short_rule t
     ∷ disc_rule t ∷ link_disc_rule t ∷ classes_rule t ∷ []
-
--- whether a Nak's body is taken as it is
-abbrev pub takes : LcpTable → LcpKind → List ℕ → Bool
-takes t Mru nak = is_within 2 LEAST_MRU MOST_MRU nak
-takes t Mrru nak = is_within 2 LEAST_MRRU t.mrru nak
-takes t Classes nak = is_own_form t nak
-takes t kind nak = false

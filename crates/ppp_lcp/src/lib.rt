@@ -8,6 +8,7 @@
 
 mod lcp_kind;
 mod lcp_table;
+mod rows;
 
 pub use lcp_kind::{LcpKind, UnknownKind};
 pub use lcp_table::{
