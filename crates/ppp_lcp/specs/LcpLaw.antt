@@ -240,9 +240,10 @@ form-first t body e =
     let asked = then-some (has_classes t) (own_code t ∷ t.classes ∷ []) body e in
     let some = and-both (not (t.classes == 0)) (is_multilink t) asked.0 in
     let low = not-zero t.classes some.0 in
-    let own = own-form t (own_code t) t.classes refl low (omega arith) in
-    (subst (λ (b : List ℕ). is_classes_body b ≡ true) asked.1 (form-good t.short t.classes t.classes t.are_classes low (omega arith)),
-     subst (λ (b : List ℕ). (has_classes t && is_own_form t b) ≡ true) asked.1 (both-and _ _ asked.0 own))
+    let own = own-form t (own_code t) t.classes refl low (omega arith) in (
+      subst (λ (b : List ℕ). is_classes_body b ≡ true) asked.1 (form-good t.short t.classes t.classes t.are_classes low (omega arith)),
+      subst (λ (b : List ℕ). (has_classes t && is_own_form t b) ≡ true) asked.1 (both-and _ _ asked.0 own),
+    )
 
 equal-numbers : (a b : ℕ) → (a == b) ≡ true → a ≡ b
 equal-numbers a b h = grind (arith, nat_tests)

@@ -1,6 +1,7 @@
 //! LCP's rows in code: what an [`LcpTable`] makes of the options of each Type.
 
 ghost use Rattle.std.specs.Prelude.{◌≡◌, ◌≢◌, ◌≤◌, ℕ, true, refl, if◌then◌else◌, List, [], ◌∷◌, length, IsTrue};
+ghost use Rattle.ppp_packet.specs.DiscClass.{is_good_disc};
 ghost use Rattle.ppp_packet.specs.Options.{option_with};
 ghost use Rattle.ppp_packet.specs.Packet.{two_octets};
 ghost use Rattle.ppp_packet.specs.OptRef.{option_seen};
@@ -21,13 +22,13 @@ ghost use Rattle.ppp_lcp.specs.declared.lcp_table.LcpTable.{LcpTable};
 
 use crate::lcp_kind::LcpKind;
 use crate::lcp_table::{
-    DEFAULT_ACCM, DEFAULT_MRU, LEAST_MRRU, LEAST_MRU, LONG_CODE, LcpTable, MOST_LONG_CLASSES, MOST_MRRU, MOST_MRU,
-    MOST_SHORT_CLASSES, SHORT_CODE,
+    DEFAULT_ACCM, DEFAULT_MRU, LEAST_MRRU, LEAST_MRU, LONG_CODE, LcpTable, MOST_LONG_CLASSES,
+    MOST_MRRU, MOST_MRU, MOST_SHORT_CLASSES, SHORT_CODE,
 };
 use ppp_auto::{OptionTable, Verdict};
 use ppp_options::{
-    OptionRules, first_list, is_new_u32, is_within_u16, list_after_nak, list_after_reject, number_of_u32, number_taken,
-    number_u16, number_u32, octets_u16, octets_u32, pick,
+    OptionRules, first_list, is_new_u32, is_within_u16, list_after_nak, list_after_reject,
+    number_of_u32, number_taken, number_u16, number_u32, octets_u16, octets_u32, pick,
 };
 use ppp_packet::{DiscClass, MOST_ADDRESS, Opt, OptList, OptRef, Options};
 
@@ -128,7 +129,9 @@ impl LcpTable {
             LcpKind::Magic => self.magic.then_some(long_option(kind, pick(word, 0))),
             LcpKind::Pfc => self.pfc.then_some(flag(kind)),
             LcpKind::Acfc => self.acfc.then_some(flag(kind)),
-            LcpKind::Mrru => self.is_multilink().then_some(number_option(kind, self.mrru)),
+            LcpKind::Mrru => self
+                .is_multilink()
+                .then_some(number_option(kind, self.mrru)),
             LcpKind::Short => (self.short && self.is_multilink()).then_some(flag(kind)),
             LcpKind::Disc => (self.disc.class != 0).then_some(self.disc_option()),
             LcpKind::LinkDisc => self.link_disc_option(),
@@ -319,13 +322,20 @@ fn accm_after(last: &[u8], nak: &[u8]) -> Opt
 }
 
 /// Whether a body is an endpoint discriminator: a class, and an address of its length.
-fn is_disc(body: &[u8]) -> bool
+pub(crate) fn is_disc(body: &[u8]) -> bool
     ensures { result ≡ is_disc_body body.now }
 {
     match body.split_first() {
-        Some((class, address)) => DiscClass::try_from(*class).is_ok_and(|class| class.has_size(address.len())),
+        Some((class, address)) => has_size(*class, address.len()),
         None => false,
     }
+}
+
+/// Whether an address of this class may have that many octets.
+fn has_size(class: u8, size: usize) -> bool
+    ensures { result ≡ is_good_disc class size }
+{
+    DiscClass::try_from(class).is_ok_and(|class| class.has_size(size))
 }
 
 /// Whether a body is a form of the multilink header that has room for its classes.

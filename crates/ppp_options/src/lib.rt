@@ -17,5 +17,5 @@ pub use number::{
 };
 pub use option_rules::OptionRules;
 pub use own_list::{
-    first_list, first_of, list_after_nak, list_after_reject, number_of_u32, number_of_u64,
+    first_list, first_of, has_option, list_after_nak, list_after_reject, number_of_u32, number_of_u64, sized_of,
 };

@@ -129,7 +129,7 @@ fn put(list: &mut OptList, kind: u8, body: &[u8])
 }
 
 /// Whether a list has an option of this Type.
-fn has_option(list: &Options<'_>, kind: u8) -> bool
+pub fn has_option(list: &Options<'_>, kind: u8) -> bool
     ensures { result ≡ has_kind kind list.now }
 {
     first_of(list, kind).is_some()
