@@ -1,0 +1,2 @@
+pub mod BacpLaw
+pub mod BacpTable

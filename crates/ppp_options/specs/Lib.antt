@@ -1,0 +1,9 @@
+pub mod Differs
+pub mod DiffersLaw
+pub mod Number
+pub mod NumberLaw
+pub mod NumberRule
+pub mod NumberRuleLaw
+pub mod Rule
+pub mod RuleLaw
+pub mod Rules

@@ -1,0 +1,4 @@
+pub mod Alignment
+pub mod MplsTable
+pub mod OsiLaw
+pub mod OsiTable
