@@ -1,0 +1,2 @@
+pub mod DottedLemmas
+pub mod HexTextLemmas

@@ -1,0 +1,34 @@
+-- The keys of a table: each has a path, a form, and a default.
+use Rattle.std.specs.Prelude.{ℕ, List, ◌++◌, Option, Some, None, Result, Ok, Err}
+use Rattle.std.specs.Borrow.{Bor}
+use Rattle.std.specs.BTreeMap.{BTreeMap}
+use Rattle.std.specs.declared.alloc.Global.{Global}
+use Rattle.std.specs.Prelude.{String}
+use Rattle.toml.specs.Data.{Data, Members, no_members, get_member}
+use Rattle.toml.specs.View.{table_view}
+use Rattle.toml.specs.declared.value.Value.{Value}
+use Rattle.ppp_conf.specs.declared.conf_why.ConfWhy.{ConfWhy}
+use Rattle.ppp_conf.specs.Refusal.{Refusal, refuse}
+
+-- a table of the settings: what its keys' paths begin with, and its members
+pub record Given : Type 0 where
+  pub prefix : List ℕ
+  pub members : Members
+
+-- a table that the code has, or none, which has no member
+abbrev pub given : List ℕ → Option (Bor (BTreeMap (String Global) Value)) → Given
+given prefix (Some table) = record { prefix = prefix; members = table_view table.now }
+given prefix None = record { prefix = prefix; members = no_members }
+
+-- what was read, with the key's path where it is refused
+abbrev pub at : {A : Type 0} → List ℕ → Result A ConfWhy → Result A Refusal
+at path (Ok value) = Ok value
+at path (Err why) = refuse path why
+
+-- what a key reads as: its default where it isn't there
+abbrev pub or_default : {A : Type 0} → Option Data → (Data → Result A ConfWhy) → A → Result A ConfWhy
+or_default (Some value) form default = form value
+or_default None form default = Ok default
+
+abbrev pub key : {A : Type 0} → Given → List ℕ → (Data → Result A ConfWhy) → A → Result A Refusal
+key given name form default = at (given.prefix ++ name) (or_default (get_member name given.members) form default)

@@ -1,0 +1,22 @@
+//! Settings.
+#![tactic(auto)]
+
+mod conf_fault;
+mod conf_why;
+mod config;
+mod disc_text;
+mod dotted;
+mod end_config;
+mod form;
+mod hex_text;
+mod key_path;
+mod protocols;
+mod rules;
+mod socket_text;
+
+pub use conf_fault::ConfFault;
+pub use conf_why::ConfWhy;
+pub use config::Config;
+pub use end_config::EndConfig;
+pub use key_path::KeyPath;
+pub use socket_text::{MOST_SOCKET, SocketText};
