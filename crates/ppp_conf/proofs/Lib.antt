@@ -1,2 +1,3 @@
 pub mod DottedLemmas
 pub mod HexTextLemmas
+pub mod ProtocolsLemmas

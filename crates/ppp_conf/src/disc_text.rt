@@ -1,6 +1,6 @@
 //! Endpoint discriminators as texts.
 
-ghost use Rattle.std.specs.Prelude.{◌≡◌, ◌≤◌, true, option_map, IfSome, IsTrue};
+ghost use Rattle.std.specs.Prelude.{◌≡◌, ◌<◌, ◌≤◌, ℕ, slice_index, true, option_map, IfSome, IsTrue};
 ghost use Rattle.ppp_packet.specs.DiscClass.{is_good_disc};
 ghost use Rattle.ppp_conf.specs.DiscText.{disc_by, disc_of, disc_seen};
 
@@ -12,6 +12,7 @@ use ppp_packet::{Disc, DiscClass};
 pub(crate) fn read_disc(text: &[u8]) -> Option<Disc>
     ensures value { option_map disc_seen result ≡ disc_of text.now }
     ensures good { IfSome result (λ disc. is_good_disc disc.class disc.size ≡ true) }
+    ensures octets { IfSome result (λ disc. (i : ℕ) → slice_index disc.address i < 256) }
 {
     match text {
         [digit, b':', digits @ ..] if b'0' <= *digit => disc_by(*digit - b'0', digits),
@@ -23,6 +24,7 @@ pub(crate) fn read_disc(text: &[u8]) -> Option<Disc>
 fn disc_by(class: u8, digits: &[u8]) -> Option<Disc>
     ensures value { option_map disc_seen result ≡ disc_by class digits.now }
     ensures good { IfSome result (λ disc. is_good_disc disc.class disc.size ≡ true) }
+    ensures octets { IfSome result (λ disc. (i : ℕ) → slice_index disc.address i < 256) }
 {
     let size = digits.len() / 2;
     if !is_good(class, size) {

@@ -1,6 +1,6 @@
 //! What a value of the settings reads as, by the form that its key has.
 
-ghost use Rattle.std.specs.Prelude.{◌≡◌, ◌≤◌, true, IfOk};
+ghost use Rattle.std.specs.Prelude.{◌≡◌, ◌<◌, ◌≤◌, ℕ, slice_index, true, IfOk};
 ghost use Rattle.toml.specs.View.{view};
 ghost use Rattle.ppp_packet.specs.DiscClass.{is_good_disc};
 ghost use Rattle.ppp_conf.specs.DiscText.{disc_of, disc_seen};
@@ -128,6 +128,7 @@ pub(crate) fn ifid(value: &Value) -> Result<Option<u64>, ConfWhy>
 pub(crate) fn disc(value: &Value) -> Result<Disc, ConfWhy>
     ensures value { Gives disc_seen result (text_of disc_of (view value.now)) }
     ensures good { IfOk result (λ disc. is_good_disc disc.class disc.size ≡ true) }
+    ensures octets { IfOk result (λ disc. (i : ℕ) → slice_index disc.address i < 256) }
 {
     match value.as_str() {
         Some(text) => read_disc(text.as_bytes()).ok_or(ConfWhy::Form),

@@ -10,6 +10,7 @@ mod end_config;
 mod form;
 mod hex_text;
 mod key_path;
+mod keys;
 mod protocols;
 mod rules;
 mod socket_text;
