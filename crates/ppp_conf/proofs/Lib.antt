@@ -1,3 +1,4 @@
 pub mod DottedLemmas
+pub mod EndConfigLemmas
 pub mod HexTextLemmas
 pub mod ProtocolsLemmas

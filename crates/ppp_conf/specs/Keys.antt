@@ -15,10 +15,13 @@ pub record Given : Type 0 where
   pub prefix : List ℕ
   pub members : Members
 
--- a table that the code has, or none, which has no member
+-- the members of a table that the code has; where it has none there is no member
+abbrev pub members_in : Option (Bor (BTreeMap (String Global) Value)) → Members
+members_in (Some table) = table_view table.now
+members_in None = no_members
+
 abbrev pub given : List ℕ → Option (Bor (BTreeMap (String Global) Value)) → Given
-given prefix (Some table) = record { prefix = prefix; members = table_view table.now }
-given prefix None = record { prefix = prefix; members = no_members }
+given prefix table = record { prefix = prefix; members = members_in table }
 
 -- what was read, with the key's path where it is refused
 abbrev pub at : {A : Type 0} → List ℕ → Result A ConfWhy → Result A Refusal

@@ -7,6 +7,7 @@ mod config;
 mod disc_text;
 mod dotted;
 mod end_config;
+mod end_keys;
 mod form;
 mod hex_text;
 mod key_path;
