@@ -57,3 +57,7 @@ names value = named (as_array value)
 abbrev pub there : {A : Type 0} → Result A ConfWhy → Result (Option A) ConfWhy
 there (Ok value) = Ok (Some value)
 there (Err why) = Err why
+
+-- a table's members
+abbrev pub table : Data → Result Members ConfWhy
+table value = of_kind (as_table value)

@@ -8,6 +8,7 @@ use Rattle.toml.specs.Data.{Data, Members, no_members, get_member}
 use Rattle.toml.specs.View.{table_view}
 use Rattle.toml.specs.declared.value.Value.{Value}
 use Rattle.ppp_conf.specs.declared.conf_why.ConfWhy.{ConfWhy}
+use Rattle.ppp_conf.specs.declared.conf_why.ConfWhy.TheVariants.{Missing}
 use Rattle.ppp_conf.specs.Refusal.{Refusal, refuse}
 
 -- a table of the settings: what its keys' paths begin with, and its members
@@ -35,3 +36,11 @@ or_default None form default = Ok default
 
 abbrev pub key : {A : Type 0} → Given → List ℕ → (Data → Result A ConfWhy) → A → Result A Refusal
 key given name form default = at (given.prefix ++ name) (or_default (get_member name given.members) form default)
+
+-- what a key reads as that has to be there
+abbrev pub or_missing : {A : Type 0} → Option Data → (Data → Result A ConfWhy) → Result A ConfWhy
+or_missing (Some value) form = form value
+or_missing None form = Err Missing
+
+abbrev pub required : {A : Type 0} → Given → List ℕ → (Data → Result A ConfWhy) → Result A Refusal
+required given name form = at (given.prefix ++ name) (or_missing (get_member name given.members) form)

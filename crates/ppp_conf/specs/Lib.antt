@@ -11,3 +11,4 @@ pub mod Refusal
 pub mod Results
 pub mod Rules
 pub mod SocketText
+pub mod Unknown

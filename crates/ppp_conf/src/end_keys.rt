@@ -18,6 +18,7 @@ pub(crate) fn read_end(keys: &Keys<'_>, links: u8) -> Result<Result<EndConfig, C
     requires most { links ≤ 16 }
     ensures ok { IfOk result (HasRead (Reads IsEnd) (end_of links (given keys.now.prefix.now keys.now.table))) }
     ensures err { IfErr result (IsRefusal (end_of links (given keys.now.prefix.now keys.now.table))) }
+    ensures links { IfOk result (λ read. IfOk read (λ config. config.links ≡ links)) }
 {
     let mru = keys.small("mru", 128, 8192, 1500)?;
     let accm = keys.large("accm", 0, 4294967295, 4294967295)?;

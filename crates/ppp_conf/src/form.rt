@@ -1,11 +1,11 @@
 //! What a value of the settings reads as, by the form that its key has.
 
 ghost use Rattle.std.specs.Prelude.{◌≡◌, ◌<◌, ◌≤◌, ℕ, slice_index, true, IfOk};
-ghost use Rattle.toml.specs.View.{view};
+ghost use Rattle.toml.specs.View.{view, table_view};
 ghost use Rattle.ppp_packet.specs.DiscClass.{is_good_disc};
 ghost use Rattle.ppp_conf.specs.DiscText.{disc_of, disc_seen};
 ghost use Rattle.ppp_conf.specs.Dotted.{dotted_of, given_of};
-ghost use Rattle.ppp_conf.specs.Form.{whole, is_zero_or, zero_or, is_alignment, alignment, truth, text_of, names};
+ghost use Rattle.ppp_conf.specs.Form.{whole, is_zero_or, zero_or, is_alignment, alignment, truth, text_of, names, table};
 ghost use Rattle.ppp_conf.specs.HexText.{ifid_of};
 ghost use Rattle.ppp_conf.specs.SocketText.{is_socket, socket_of};
 ghost use Rattle.ppp_conf.specs.Results.{Gives};
@@ -17,7 +17,7 @@ use crate::hex_text::read_ifid;
 use crate::protocols::read_names;
 use crate::socket_text::is_socket;
 use ppp_packet::Disc;
-use toml::Value;
+use toml::{Table, Value};
 
 /// A whole number within these bounds.
 pub(crate) fn large(value: &Value, least: u32, most: u32) -> Result<u32, ConfWhy>
@@ -156,4 +156,11 @@ pub(crate) fn names(value: &Value) -> Result<[bool; 4], ConfWhy>
         Some(values) => read_names(values).ok_or(ConfWhy::Form),
         None => Err(ConfWhy::Wrong),
     }
+}
+
+/// A table.
+pub(crate) fn table(value: &Value) -> Result<&Table, ConfWhy>
+    ensures { Gives (λ members. table_view members.now) result (table (view value.now)) }
+{
+    value.as_table().ok_or(ConfWhy::Wrong)
 }

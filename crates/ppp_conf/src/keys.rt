@@ -1,14 +1,14 @@
 //! The keys of one table of the settings.
 
 ghost use Rattle.std.specs.Prelude.{◌≡◌, ◌≤◌, ◌<◌, ◌++◌, ℕ, [], true, false, length, None, Some, option_map, IfOk, IfErr, slice_index};
-ghost use Rattle.toml.specs.Data.{get_member};
+ghost use Rattle.toml.specs.Data.{get_member, no_members};
 ghost use Rattle.toml.specs.View.{view, table_view};
 ghost use Rattle.ppp_packet.specs.DiscClass.{is_good_disc};
 ghost use Rattle.ppp_conf.specs.DiscText.{disc_of, disc_seen};
 ghost use Rattle.ppp_conf.specs.Dotted.{dotted_of, given_of};
-ghost use Rattle.ppp_conf.specs.Form.{whole, is_zero_or, zero_or, is_alignment, alignment, truth, text_of, names, there};
+ghost use Rattle.ppp_conf.specs.Form.{whole, is_zero_or, zero_or, is_alignment, alignment, truth, text_of, names, there, table};
 ghost use Rattle.ppp_conf.specs.HexText.{ifid_of};
-ghost use Rattle.ppp_conf.specs.Keys.{at, given, key};
+ghost use Rattle.ppp_conf.specs.Keys.{at, given, key, members_in, required};
 ghost use Rattle.ppp_conf.specs.Protocols.{no_protocols};
 ghost use Rattle.ppp_conf.specs.Refusal.{IsRefusal, refuse};
 ghost use Rattle.ppp_conf.specs.Rules.{all_within};
@@ -294,6 +294,31 @@ impl<'t> Keys<'t> {
         match self.get(name) {
             Some(value) => self.said(name, form::socket(value)),
             None => Ok(default),
+        }
+    }
+    /// A whole number of 8 bits within these bounds, that has to be there.
+    pub(crate) fn required(&self, name: &'static str, least: u8, most: u8) -> Result<u8, ConfFault>
+        ensures ok { IfOk result (λ n.
+            required (given self.now.prefix.now self.now.table) name.now (whole least most) ≡ Ok n) }
+        ensures err { IfErr result (IsRefusal
+            (required (given self.now.prefix.now self.now.table) name.now (whole least most))) }
+    {
+        match self.get(name) {
+            Some(value) => self.said(name, form::octet(value, least, most)),
+            None => Err(self.refused(name, ConfWhy::Missing)),
+        }
+    }
+
+    /// A table.
+    pub(crate) fn table(&self, name: &'static str) -> Result<Option<&'t Table>, ConfFault>
+        ensures ok { IfOk result (λ found. key (given self.now.prefix.now self.now.table) name.now
+            table no_members ≡ Ok (members_in found)) }
+        ensures err { IfErr result (IsRefusal
+            (key (given self.now.prefix.now self.now.table) name.now table no_members)) }
+    {
+        match self.get(name) {
+            Some(value) => Ok(Some(self.said(name, form::table(value))?)),
+            None => Ok(None),
         }
     }
 }

@@ -14,11 +14,14 @@ mod key_path;
 mod keys;
 mod protocols;
 mod rules;
+mod settings;
 mod socket_text;
+mod unknown;
 
 pub use conf_fault::ConfFault;
 pub use conf_why::ConfWhy;
 pub use config::Config;
 pub use end_config::EndConfig;
 pub use key_path::KeyPath;
+pub use settings::read_config;
 pub use socket_text::{MOST_SOCKET, SocketText};
