@@ -1,8 +1,6 @@
 -- Facts on one end's settings: what they read as, from what each key reads as.
 use Rattle.std.proofs.Common.{sym, ◌∙◌, ◌≡◌, ℕ, Bool, true, false, List, [], ◌++◌, codes, Option, Some, None, Result, Ok, Err, refl}
 use Rattle.ppp_conf.specs.declared.conf_fault.ConfFault.{ConfFault}
-use Rattle.ppp_conf.specs.declared.conf_fault.ConfFault.TheVariants.{Memory, Refused}
-use Rattle.ppp_conf.specs.declared.conf_why.ConfWhy.{ConfWhy}
 use Rattle.ppp_conf.specs.declared.conf_why.ConfWhy.TheVariants.{Rule}
 use Rattle.ppp_conf.specs.declared.end_config.EndConfig.{EndConfig}
 use Rattle.ppp_conf.specs.DiscText.{disc_of}
@@ -15,6 +13,7 @@ use Rattle.ppp_conf.specs.Protocols.{no_protocols}
 use Rattle.ppp_conf.specs.Refusal.{Refusal, refuse, IsRefusal, HasRead, Reads}
 use Rattle.ppp_conf.specs.Rules.{broken}
 use Rattle.ppp_conf.specs.SocketText.{socket_of}
+use Rattle.ppp_conf.proofs.RefusalLemmas.{IsRefusal-same}
 
 -- keys that are all read
 pub end_of-read : (links : ℕ) (given : Given)
@@ -50,11 +49,6 @@ pub end_of-read : (links : ℕ) (given : Given)
 end_of-read links given mru accm magic pfc acfc mrru short classes disc link_disc favored bap protocols ip give ifid align fragment most least calls callbacks speed max_speed socket listen
     is_mru is_accm is_magic is_pfc is_acfc is_mrru is_short is_classes is_disc is_link_disc is_favored is_bap is_protocols is_ip is_give is_ifid is_align is_fragment is_most is_least is_calls is_callbacks is_speed is_max_speed is_socket is_listen =
     rw (is_mru, is_accm, is_magic, is_pfc, is_acfc, is_mrru, is_short, is_classes, is_disc, is_link_disc, is_favored, is_bap, is_protocols, is_ip, is_give, is_ifid, is_align, is_fragment, is_most, is_least, is_calls, is_callbacks, is_speed, is_max_speed, is_socket, is_listen) refl
-
--- what is refused with this fault, whatever it is that isn't read
-IsRefusal-same : (A B : Type 0) (path : List ℕ) (why : ConfWhy) (fault : ConfFault) → IsRefusal (refuse {A = A} path why) fault → IsRefusal (refuse {A = B} path why) fault
-IsRefusal-same A B path why Memory h = tt
-IsRefusal-same A B path why (Refused named cause) h = cc h
 
 -- no rule is broken
 pub read_end-whole : (read : Result (Result EndSettings Refusal) Refusal) (prefix : List ℕ) (settings : EndSettings) (config : EndConfig) (first : Option (List ℕ)) →

@@ -27,24 +27,15 @@ use toml::{Table, Value};
 /// the prefix. A table that isn't there has no key.
 #[derive(Clone, Copy)]
 pub(crate) struct Keys<'t> {
-    alloc: Global,
-    prefix: &'static str,
-    table: Option<&'t Table>,
+    /// What a path's memory comes from.
+    pub(crate) alloc: Global,
+    /// What the keys' paths begin with: nothing, or a name and a dot.
+    pub(crate) prefix: &'static str,
+    /// The table.
+    pub(crate) table: Option<&'t Table>,
 }
 
 impl<'t> Keys<'t> {
-    /// The keys of this table.
-    pub(crate) fn new(alloc: Global, prefix: &'static str, table: Option<&'t Table>) -> Keys<'t>
-        ensures prefix { result.prefix ≡ prefix.entry }
-        ensures table { result.table ≡ table.entry }
-    {
-        Keys {
-            alloc,
-            prefix,
-            table,
-        }
-    }
-
     /// The value of a key.
     pub(crate) fn get(&self, name: &'static str) -> Option<&'t Value>
         ensures { option_map (λ value. view value.now) result

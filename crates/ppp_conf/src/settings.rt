@@ -19,7 +19,7 @@ use std::alloc::Global;
 use toml::Table;
 
 /// Reads settings, a TOML text.
-#[tactic(auto, unfolding(crate::specs::Config::config_of))]
+
 pub fn read_config(alloc: Global, text: &[u8]) -> Result<Config, ConfFault>
     ensures ok { IfOk result (HasRead IsConfig (config_of text.now)) }
     ensures err { IfErr result (IsRefusal (config_of text.now)) }
@@ -30,7 +30,12 @@ pub fn read_config(alloc: Global, text: &[u8]) -> Result<Config, ConfFault>
             if error.is_memory() {
                 return Err(ConfFault::Memory);
             }
-            Err(Keys::new(alloc, "", None).refused("-", ConfWhy::Toml))
+            let keys = Keys {
+                alloc,
+                prefix: "",
+                table: None,
+            };
+            Err(keys.refused("-", ConfWhy::Toml))
         }
     }
 }
@@ -42,7 +47,11 @@ fn read_document(alloc: Global, top: &Table) -> Result<Config, ConfFault>
     ensures err { IfErr result (IsRefusal
         (settings_of (record { prefix = []; members = table_view top.now }))) }
 {
-    let keys = Keys::new(alloc, "", Some(top));
+    let keys = Keys {
+        alloc,
+        prefix: "",
+        table: Some(top),
+    };
     let version = keys.required("version", 1, 2)?;
     check_known(alloc, top, version)?;
     let links = keys.octet("links", 1, 16, 1)?;
@@ -85,5 +94,10 @@ fn end_at(
     ensures links { IfOk result (λ read. IfOk read (λ config. config.links ≡ links)) }
 {
     let table = top.table(name)?;
-    read_end(&Keys::new(alloc, prefix, table), links)
+    let keys = Keys {
+        alloc,
+        prefix,
+        table,
+    };
+    read_end(&keys, links)
 }
