@@ -52,7 +52,7 @@ abbrev pub toml_of : List ℕ → Option Members
 toml_of text = if is_utf8 text then parse_document text else None
 
 abbrev pub document_of : Option Members → Result Settings Refusal
-document_of (Some members) = settings_of (record { prefix = []; members = members })
+document_of (Some top) = settings_of (record { prefix = []; members = top })
 document_of None = refuse (codes "-") Toml
 
 -- the settings that a text reads as, or its first refusal

@@ -1,8 +1,11 @@
 pub mod ConfWhy
 pub mod Config
+pub mod ConfigText
 pub mod DiscText
 pub mod Dotted
 pub mod EndConfig
+pub mod EndTable
+pub mod Fields
 pub mod Form
 pub mod HexText
 pub mod Keys

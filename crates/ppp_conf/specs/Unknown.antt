@@ -53,7 +53,7 @@ least_unknown prefix is_known (member name value rest) =
 
 -- the members of a value that is a table; of another there is none
 abbrev pub table_members : Option Members → Members
-table_members (Some members) = members
+table_members (Some entries) = entries
 table_members None = no_members
 
 abbrev pub inside : Option Data → Members
