@@ -1,0 +1,12 @@
+pub mod ConfigLemmas
+pub mod ConfigTextLemmas
+pub mod DiscTextLemmas
+pub mod DottedLemmas
+pub mod EndConfigLemmas
+pub mod EndTableLemmas
+pub mod FieldsLemmas
+pub mod HexTextLemmas
+pub mod PrintedTexts
+pub mod ProtocolsLemmas
+pub mod RefusalLemmas
+pub mod UnknownLemmas

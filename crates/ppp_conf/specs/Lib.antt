@@ -1,0 +1,17 @@
+pub mod ConfWhy
+pub mod Config
+pub mod ConfigText
+pub mod DiscText
+pub mod Dotted
+pub mod EndConfig
+pub mod EndTable
+pub mod Fields
+pub mod Form
+pub mod HexText
+pub mod Keys
+pub mod Protocols
+pub mod Refusal
+pub mod Results
+pub mod Rules
+pub mod SocketText
+pub mod Unknown
