@@ -10,7 +10,7 @@ use Rattle.ppp_lcp.specs.LcpTable.{lcp_rule, lcp_rules}
 use Rattle.ppp_lcp.specs.declared.lcp_kind.LcpKind.{LcpKind}
 use Rattle.ppp_lcp.specs.declared.lcp_kind.LcpKind.TheVariants.{Mru, Accm, Magic, Pfc, Acfc, Mrru, Short, Disc, LinkDisc, Classes}
 use Rattle.ppp_lcp.specs.declared.lcp_kind.UnknownKind.{UnknownKind}
-use Rattle.ppp_lcp.specs.declared.lcp_table.LcpTable.{LcpTable}
+use Rattle.ppp_lcp.specs.LcpSettings.{LcpSettings, IsRanged}
 
 step : {A B : Type 0} (f : A → B) (b : Bool) (k : A) (rest : Option A) (more : Option B) → more ≡ option_map f rest →
     (if b then Some (f k) else more) ≡ option_map f (if b then Some k else rest)
@@ -18,7 +18,7 @@ step f true k rest more h = refl
 step f false k rest more h = h
 
 -- a Type's row is found at its number
-pub rule-of : (t : LcpTable) (n : ℕ) → rule_of n (lcp_rules t) ≡ option_map (lcp_rule t) (kind_of n)
+pub rule-of : (t : LcpSettings) (n : ℕ) → rule_of n (lcp_rules t) ≡ option_map (lcp_rule t) (kind_of n)
 rule-of t n =
     step (lcp_rule t) (kind_number Mru == n) Mru _ _
     (step (lcp_rule t) (kind_number Accm == n) Accm _ _
@@ -35,10 +35,10 @@ read-ok : (found : Option LcpKind) (e : UnknownKind) (kind : LcpKind) → Ok kin
 read-ok None e kind h = cc
 read-ok (Some k) e kind h = cc
 
-pub rule-read : (t : LcpTable) (n : ℕ) (kind : LcpKind) → Ok kind ≡ read_kind n → rule_of n (lcp_rules t) ≡ Some (lcp_rule t kind)
+pub rule-read : (t : LcpSettings) (n : ℕ) (kind : LcpKind) → Ok kind ≡ read_kind n → rule_of n (lcp_rules t) ≡ Some (lcp_rule t kind)
 rule-read t n kind h = rule-of t n ∙ ap (option_map (lcp_rule t)) (read-ok (kind_of n) _ kind h)
 
-row-octets : (t : LcpTable) (kind : LcpKind) → (lcp_rule t kind).most ≤ 34
+row-octets : (t : LcpSettings) (kind : LcpKind) → (lcp_rule t kind).most ≤ 34
 row-octets t Mru = omega arith
 row-octets t Accm = omega arith
 row-octets t Magic = omega arith
@@ -51,9 +51,9 @@ row-octets t LinkDisc = omega arith
 row-octets t Classes = omega arith
 
 -- what stands after a Nak can be kept
-pub after-fits : (t : LcpTable) (kind : LcpKind) (last nak : List ℕ) (word : ℕ) → (lcp_rule t kind).is_sent last ≡ true → length ((lcp_rule t kind).after last nak word) ≤ 32
-after-fits t kind last nak word sent =
-    let is = kind_is_rule t kind in
+pub after-fits : (t : LcpSettings) → IsRanged t → (kind : LcpKind) (last nak : List ℕ) (word : ℕ) → (lcp_rule t kind).is_sent last ≡ true → length ((lcp_rule t kind).after last nak word) ≤ 32
+after-fits t ranged kind last nak word sent =
+    let is = kind_is_rule t ranged kind in
     let same = is.after_long last nak word sent in
     let short = is.sent_short last sent in
     let most = row-octets t kind in

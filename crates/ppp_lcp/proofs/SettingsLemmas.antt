@@ -15,7 +15,7 @@ use Rattle.ppp_options.specs.Rules.{rule_of, is_set, is_set_by, is_sendable, IsA
 use Rattle.ppp_options.specs.RuleLaw.{and-both}
 use Rattle.ppp_lcp.specs.LcpTable.{lcp_rules, is_multilink, disc_body, is_link_disc, has_classes, is_own_form}
 use Rattle.ppp_lcp.specs.Settings.{KeepsSettings}
-use Rattle.ppp_lcp.specs.declared.lcp_table.LcpTable.{LcpTable}
+use Rattle.ppp_lcp.specs.LcpSettings.{LcpSettings}
 
 found-here : (rs : List Rule) (kind : ℕ) (o : ConfigOption) (body : List ℕ) → (o.kind ≡ kind) × (o.body ≡ body) → is_set rs o ≡ true → is_set_by (rule_of kind rs) body ≡ true
 found-here rs kind o body same h = rw (same.0, same.1) at h
@@ -48,7 +48,7 @@ link-is : (own : Option ℕ) (body : List ℕ) → is_link_disc own body ≡ tru
 link-is None body h = cc
 link-is (Some n) body h = let same : body ≡ two_octets n = same_text body (two_octets n) (sym h) in cc
 
-pub asked-keeps : (t : LcpTable) (list : List ConfigOption) → IsAsked (lcp_rules t) list → KeepsSettings t list
+pub asked-keeps : (t : LcpSettings) (list : List ConfigOption) → IsAsked (lcp_rules t) list → KeepsSettings t list
 asked-keeps t list h =
     let all = (and-both (is_sendable (lcp_rules t) list) (list_all (is_set (lcp_rules t)) list) h).1 in
     record {
@@ -56,7 +56,7 @@ asked-keeps t list h =
       acfc = λ body has. found-set (lcp_rules t) 8 list body all has;
       mrru = λ body has. let both = and-both (is_multilink t) (nat_le (number body) t.mrru) (found-set (lcp_rules t) 17 list body all has) in (both.0, at-most _ _ both.1);
       short = λ body has. found-set (lcp_rules t) 18 list body all has;
-      disc = λ body has. let both = and-both (not (t.disc.class == 0)) (bytes_eq body (disc_body t)) (found-set (lcp_rules t) 19 list body all has) in
+      disc = λ body has. let both = and-both (not (t.disc.0 == 0)) (bytes_eq body (disc_body t)) (found-set (lcp_rules t) 19 list body all has) in
           (not-false _ both.0, same_text body (disc_body t) (sym both.1));
       link_disc = λ body has. link-is t.link_disc body (found-set (lcp_rules t) 23 list body all has);
       classes = λ body has. and-both (has_classes t) (is_own_form t body) (found-set (lcp_rules t) 27 list body all has);

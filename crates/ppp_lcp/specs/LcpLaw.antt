@@ -24,6 +24,7 @@ use Rattle.ppp_lcp.specs.LcpTable.{lcp_rule, mru_rule, accm_after, accm_rule, ma
 use Rattle.ppp_lcp.specs.declared.lcp_kind.LcpKind.{LcpKind}
 use Rattle.ppp_lcp.specs.declared.lcp_kind.LcpKind.TheVariants.{Mru, Accm, Magic, Pfc, Acfc, Mrru, Short, Disc, LinkDisc, Classes}
 use Rattle.ppp_lcp.specs.declared.lcp_table.LcpTable.{LcpTable}
+use Rattle.ppp_lcp.specs.LcpSettings.{LcpSettings, IsRanged, settings_seen}
 
 -- what is asked for, if anything is, is the one body
 then-some : (b : Bool) (x body : List ℕ) → then_some b x ≡ Some body → (b ≡ true) × (x ≡ body)
@@ -50,9 +51,9 @@ mru-first mru body low high e =
 sized-short : (size : ℕ) (b : Bool) (body : List ℕ) → ((length body == size) && b) ≡ true → 2 + length body ≤ 2 + size
 sized-short size b body h = grind (arith, nat_tests)
 
-mru_is_rule : (t : LcpTable) → IsRule (mru_rule t)
-mru_is_rule t = record {
-  first_sent = λ word body e. mru-first t.mru body t.least_mru t.most_mru e;
+mru_is_rule : (t : LcpSettings) → IsRanged t → IsRule (mru_rule t)
+mru_is_rule t ranged = record {
+  first_sent = λ word body e. mru-first t.mru body ranged.least_mru ranged.most_mru e;
   first_set = λ word body e. refl;
   first_there = λ e word. cc;
   after_sent = λ last nak word h. within-if 128 8192 128 8192 last nak h (omega arith) (omega arith);
@@ -77,7 +78,7 @@ accm-sent last nak h = let long = accm-long last nak h in grind (arith, nat_test
 size-short : (size : ℕ) (body : List ℕ) → (length body == size) ≡ true → 2 + length body ≤ 2 + size
 size-short size body h = grind (arith, nat_tests)
 
-accm_is_rule : (t : LcpTable) → IsRule (accm_rule t)
+accm_is_rule : (t : LcpSettings) → IsRule (accm_rule t)
 accm_is_rule t = record {
   first_sent = λ word body e. accm-first _ t.accm body e;
   first_set = λ word body e. refl;
@@ -95,7 +96,7 @@ magic-first : (asked : Bool) (word : ℕ) (body : List ℕ) → then_some asked 
 magic-first asked word body e =
     let one = then-some asked (four_octets (pick word 0)) body e in subst (λ (b : List ℕ). is_new 4 0 b ≡ true) one.1 (drawn-sent word 0)
 
-magic_is_rule : (t : LcpTable) → IsRule (magic_rule t)
+magic_is_rule : (t : LcpSettings) → IsRule (magic_rule t)
 magic_is_rule t = number_is_rule 5 false (λ word. then_some t.magic (four_octets (pick word 0))) (λ word body e. magic-first t.magic word body e) (λ e word. cc)
 
 -- options without a body
@@ -142,12 +143,12 @@ mrru-set : (mrru : ℕ) (last nak : List ℕ) → (not (mrru == 0) && nat_le (nu
     (not (mrru == 0) && nat_le (number (if is_within 2 1500 mrru nak then nak else last)) mrru) ≡ true
 mrru-set mrru last nak k = grind (arith, nat_tests)
 
-mrru_is_rule : (t : LcpTable) → IsRule (mrru_rule t)
-mrru_is_rule t = record {
-  first_sent = λ word body e. mrru-first t.mrru body t.is_mrru e;
-  first_set = λ word body e. mrru-set-first t.mrru body t.is_mrru e;
+mrru_is_rule : (t : LcpSettings) → IsRanged t → IsRule (mrru_rule t)
+mrru_is_rule t ranged = record {
+  first_sent = λ word body e. mrru-first t.mrru body ranged.is_mrru e;
+  first_set = λ word body e. mrru-set-first t.mrru body ranged.is_mrru e;
   first_there = λ e word. cc;
-  after_sent = λ last nak word h. within-if 1500 8192 1500 t.mrru last nak h (omega arith) (mrru-most t.mrru t.is_mrru);
+  after_sent = λ last nak word h. within-if 1500 8192 1500 t.mrru last nak h (omega arith) (mrru-most t.mrru ranged.is_mrru);
   after_set = λ last nak word h k. mrru-set t.mrru last nak k;
   after_long = λ last nak word h. within-if-long 1500 8192 1500 t.mrru last nak h;
   sent_short = λ body h. within-long 1500 8192 body h;
@@ -167,19 +168,14 @@ disc-short : (body : List ℕ) → is_disc_body body ≡ true → 2 + length bod
 disc-short [] h = cc
 disc-short (c ∷ address) h = let most = size-most c (length address) h in omega arith
 
-disc-own : (t : LcpTable) → is_disc_body (disc_body t) ≡ true
-disc-own t =
-    let size : length (take t.disc.size t.disc.address) ≡ t.disc.size = length-take-le t.disc.size t.disc.address (let whole = t.disc.is_address.whole in let within = t.disc.is_address.within in omega arith) in
-    rw size t.is_disc
+disc-first : (t : LcpSettings) → IsRanged t → (asked : Bool) (body : List ℕ) → then_some asked (disc_body t) ≡ Some body → (is_disc_body body ≡ true) × (asked ≡ true) × (disc_body t ≡ body)
+disc-first t ranged asked body e =
+    let one = then-some asked (disc_body t) body e in (subst (λ (b : List ℕ). is_disc_body b ≡ true) one.1 ranged.is_disc, one.0, one.1)
 
-disc-first : (t : LcpTable) (asked : Bool) (body : List ℕ) → then_some asked (disc_body t) ≡ Some body → (is_disc_body body ≡ true) × (asked ≡ true) × (disc_body t ≡ body)
-disc-first t asked body e =
-    let one = then-some asked (disc_body t) body e in (subst (λ (b : List ℕ). is_disc_body b ≡ true) one.1 (disc-own t), one.0, one.1)
-
-disc_is_rule : (t : LcpTable) → IsRule (disc_rule t)
-disc_is_rule t = record {
-  first_sent = λ word body e. (disc-first t _ body e).0;
-  first_set = λ word body e. let one = disc-first t _ body e in subst (λ (b : List ℕ). (not (t.disc.class == 0) && bytes_eq b (disc_body t)) ≡ true) one.2 (rw one.1 (same-bytes (disc_body t)));
+disc_is_rule : (t : LcpSettings) → IsRanged t → IsRule (disc_rule t)
+disc_is_rule t ranged = record {
+  first_sent = λ word body e. (disc-first t ranged _ body e).0;
+  first_set = λ word body e. let one = disc-first t ranged _ body e in subst (λ (b : List ℕ). (not (t.disc.0 == 0) && bytes_eq b (disc_body t)) ≡ true) one.2 (rw one.1 (same-bytes (disc_body t)));
   first_there = λ e word. cc;
   after_sent = λ last nak word h. h;
   after_set = λ last nak word h k. k;
@@ -199,7 +195,7 @@ link-set None body e = cc
 link-set (Some n) body e =
     let same : two_octets n ≡ body = cc in subst (λ (b : List ℕ). bytes_eq b (two_octets n) ≡ true) same (same-bytes (two_octets n))
 
-link_is_rule : (t : LcpTable) → IsRule (link_disc_rule t)
+link_is_rule : (t : LcpSettings) → IsRule (link_disc_rule t)
 link_is_rule t = record {
   first_sent = λ word body e. link-first t.link_disc body e;
   first_set = λ word body e. link-set t.link_disc body e;
@@ -228,20 +224,20 @@ not-zero n h = grind (arith, nat_tests)
 same-number : (n : ℕ) → (n == n) ≡ true
 same-number n = grind (arith, nat_tests)
 
-own-form : (t : LcpTable) (code count : ℕ) → code ≡ own_code t → 1 ≤ count → count ≤ t.classes → is_own_form t (code ∷ count ∷ []) ≡ true
+own-form : (t : LcpSettings) (code count : ℕ) → code ≡ own_code t → 1 ≤ count → count ≤ t.classes → is_own_form t (code ∷ count ∷ []) ≡ true
 own-form t code count same low high =
     let a : (code == own_code t) ≡ true = rw same (same-number (own_code t)) in
     let b : nat_le 1 count ≡ true = grind (arith, nat_tests) in
     let c : nat_le count t.classes ≡ true = grind (arith, nat_tests) in
     rw (a, b) c
 
-form-first : (t : LcpTable) (body : List ℕ) → then_some (has_classes t) (own_code t ∷ t.classes ∷ []) ≡ Some body → (is_classes_body body ≡ true) × ((has_classes t && is_own_form t body) ≡ true)
-form-first t body e =
+form-first : (t : LcpSettings) → IsRanged t → (body : List ℕ) → then_some (has_classes t) (own_code t ∷ t.classes ∷ []) ≡ Some body → (is_classes_body body ≡ true) × ((has_classes t && is_own_form t body) ≡ true)
+form-first t ranged body e =
     let asked = then-some (has_classes t) (own_code t ∷ t.classes ∷ []) body e in
     let some = and-both (not (t.classes == 0)) (is_multilink t) asked.0 in
     let low = not-zero t.classes some.0 in
     let own = own-form t (own_code t) t.classes refl low (omega arith) in (
-      subst (λ (b : List ℕ). is_classes_body b ≡ true) asked.1 (form-good t.short t.classes t.classes t.are_classes low (omega arith)),
+      subst (λ (b : List ℕ). is_classes_body b ≡ true) asked.1 (form-good t.short t.classes t.classes ranged.are_classes low (omega arith)),
       subst (λ (b : List ℕ). (has_classes t && is_own_form t b) ≡ true) asked.1 (both-and _ _ asked.0 own),
     )
 
@@ -251,17 +247,17 @@ equal-numbers a b h = grind (arith, nat_tests)
 at-most : (a b : ℕ) → nat_le a b ≡ true → a ≤ b
 at-most a b h = grind (arith, nat_tests)
 
-own-good : (t : LcpTable) (body : List ℕ) → is_own_form t body ≡ true → is_classes_body body ≡ true
-own-good t [] h = cc
-own-good t (code ∷ []) h = cc
-own-good t (code ∷ count ∷ []) h =
+own-good : (t : LcpSettings) → IsRanged t → (body : List ℕ) → is_own_form t body ≡ true → is_classes_body body ≡ true
+own-good t ranged [] h = cc
+own-good t ranged (code ∷ []) h = cc
+own-good t ranged (code ∷ count ∷ []) h =
     let one = and-both ((code == own_code t) && nat_le 1 count) (nat_le count t.classes) h in
     let two = and-both (code == own_code t) (nat_le 1 count) one.0 in
     let same : code ≡ own_code t = equal-numbers code (own_code t) two.0 in
     let low : 1 ≤ count = at-most 1 count two.1 in
     let high : count ≤ t.classes = at-most count t.classes one.1 in
-    rw same (form-good t.short t.classes count t.are_classes low high)
-own-good t (code ∷ count ∷ more ∷ rest) h = cc
+    rw same (form-good t.short t.classes count ranged.are_classes low high)
+own-good t ranged (code ∷ count ∷ more ∷ rest) h = cc
 
 form-after : (own : List ℕ → Bool) (last nak : List ℕ) → ((body : List ℕ) → own body ≡ true → is_classes_body body ≡ true) → is_classes_body last ≡ true →
     is_classes_body (if own nak then nak else last) ≡ true
@@ -279,43 +275,56 @@ better-long (code ∷ []) = omega arith
 better-long (code ∷ count ∷ []) = grind (arith, nat_tests)
 better-long (code ∷ count ∷ more ∷ rest) = omega arith
 
-classes_is_rule : (t : LcpTable) → IsRule (classes_rule t)
-classes_is_rule t = record {
-  first_sent = λ word body e. (form-first t body e).0;
-  first_set = λ word body e. (form-first t body e).1;
+classes_is_rule : (t : LcpSettings) → IsRanged t → IsRule (classes_rule t)
+classes_is_rule t ranged = record {
+  first_sent = λ word body e. (form-first t ranged body e).0;
+  first_set = λ word body e. (form-first t ranged body e).1;
   first_there = λ e word. cc;
-  after_sent = λ last nak word h. form-after (is_own_form t) last nak (own-good t) h;
+  after_sent = λ last nak word h. form-after (is_own_form t) last nak (own-good t ranged) h;
   after_set = λ last nak word h k. if-passes (λ b. has_classes t && is_own_form t b) (is_own_form t nak) nak last (λ q. both-and _ _ (and-both _ _ k).0 q) k;
-  after_long = λ last nak word h. form-long _ (form-after (is_own_form t) last nak (own-good t) h) ∙ sym (form-long last h);
+  after_long = λ last nak word h. form-long _ (form-after (is_own_form t) last nak (own-good t ranged) h) ∙ sym (form-long last h);
   sent_short = λ body h. let long = form-long body h in omega arith;
   good_short = λ own body known h. let long = form-long body h in omega arith;
   better_short = λ own body word. better-long body;
 }
 
 -- each row by its Type
-pub kind_is_rule : (t : LcpTable) (kind : LcpKind) → IsRule (lcp_rule t kind)
-kind_is_rule t Mru = mru_is_rule t
-kind_is_rule t Accm = accm_is_rule t
-kind_is_rule t Magic = magic_is_rule t
-kind_is_rule t Pfc = flag_is_rule Pfc t.pfc true
-kind_is_rule t Acfc = flag_is_rule Acfc t.acfc true
-kind_is_rule t Mrru = mrru_is_rule t
-kind_is_rule t Short = flag_is_rule Short (asks_short t) (is_multilink t)
-kind_is_rule t Disc = disc_is_rule t
-kind_is_rule t LinkDisc = link_is_rule t
-kind_is_rule t Classes = classes_is_rule t
+pub kind_is_rule : (t : LcpSettings) → IsRanged t → (kind : LcpKind) → IsRule (lcp_rule t kind)
+kind_is_rule t ranged Mru = mru_is_rule t ranged
+kind_is_rule t ranged Accm = accm_is_rule t
+kind_is_rule t ranged Magic = magic_is_rule t
+kind_is_rule t ranged Pfc = flag_is_rule Pfc t.pfc true
+kind_is_rule t ranged Acfc = flag_is_rule Acfc t.acfc true
+kind_is_rule t ranged Mrru = mrru_is_rule t ranged
+kind_is_rule t ranged Short = flag_is_rule Short (asks_short t) (is_multilink t)
+kind_is_rule t ranged Disc = disc_is_rule t ranged
+kind_is_rule t ranged LinkDisc = link_is_rule t
+kind_is_rule t ranged Classes = classes_is_rule t ranged
 
-pub lcp_is_table : (t : LcpTable) → IsTable (lcp_rules t)
-lcp_is_table t = record {
+pub lcp_is_table : (t : LcpSettings) → IsRanged t → IsTable (lcp_rules t)
+lcp_is_table t ranged = record {
   ascending = refl;
-  each = (kind_is_rule t Mru, (kind_is_rule t Accm, (kind_is_rule t Magic, (kind_is_rule t Pfc, (kind_is_rule t Acfc, (kind_is_rule t Mrru, (kind_is_rule t Short, (kind_is_rule t Disc, (kind_is_rule t LinkDisc, (kind_is_rule t Classes, tt))))))))));
+  each = (kind_is_rule t ranged Mru, (kind_is_rule t ranged Accm, (kind_is_rule t ranged Magic, (kind_is_rule t ranged Pfc, (kind_is_rule t ranged Acfc, (kind_is_rule t ranged Mrru, (kind_is_rule t ranged Short, (kind_is_rule t ranged Disc, (kind_is_rule t ranged LinkDisc, (kind_is_rule t ranged Classes, tt))))))))));
   fits = omega arith;
   few = omega arith;
 }
 
 -- two lists of which one allows the other don't have the same Magic-Number
-takes_others : (t : LcpTable) → TakesOthers (lcp_rules t) 5 4
+takes_others : (t : LcpSettings) → TakesOthers (lcp_rules t) 5 4
 takes_others t = record { takes = λ own body h. h }
 
-pub lcp_fits : (t : LcpTable) (own theirs : List ConfigOption) → Sendable (lcp_rules t) own → Allows (lcp_rules t) own theirs → Differs 5 4 own theirs
+pub lcp_fits : (t : LcpSettings) (own theirs : List ConfigOption) → Sendable (lcp_rules t) own → Allows (lcp_rules t) own theirs → Differs 5 4 own theirs
 lcp_fits t own theirs sends allowed = allowed-differs (lcp_rules t) 5 4 (takes_others t) own theirs allowed
+
+-- a table's values are within their ranges
+pub table_ranged : (t : LcpTable) → IsRanged (settings_seen t)
+table_ranged t =
+    let size : length (take t.disc.size t.disc.address) ≡ t.disc.size =
+    length-take-le t.disc.size t.disc.address (let whole = t.disc.is_address.whole in let within = t.disc.is_address.within in omega arith) in
+    record {
+      least_mru = t.least_mru;
+      most_mru = t.most_mru;
+      is_mrru = t.is_mrru;
+      are_classes = t.are_classes;
+      is_disc = rw size t.is_disc;
+    }

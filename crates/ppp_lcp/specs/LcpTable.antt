@@ -1,5 +1,5 @@
 -- LCP's table: its rows, in ascending Types.
-use Rattle.std.specs.Prelude.{ℕ, ◌+◌, Bool, true, false, not, ◌&&◌, ◌||◌, ◌==◌, nat_le, nat_lt, if◌then◌else◌, List, [], ◌∷◌, length, take, Option, Some, None, bit_or}
+use Rattle.std.specs.Prelude.{ℕ, ◌+◌, Bool, true, false, not, ◌&&◌, ◌||◌, ◌==◌, nat_le, nat_lt, if◌then◌else◌, List, [], ◌∷◌, length, Option, Some, None, bit_or}
 use Rattle.std.specs.Bool.{then_some}
 use Rattle.std.specs.Option.{option_map}
 use Rattle.std.specs.Str.{bytes_eq}
@@ -15,16 +15,16 @@ use Rattle.ppp_lcp.specs.LcpKind.{kind_number}
 use Rattle.ppp_lcp.specs.LcpRanges.{is_disc_body, is_classes_body}
 use Rattle.ppp_lcp.specs.declared.lcp_kind.LcpKind.{LcpKind}
 use Rattle.ppp_lcp.specs.declared.lcp_kind.LcpKind.TheVariants.{Mru, Accm, Magic, Pfc, Acfc, Mrru, Short, Disc, LinkDisc, Classes}
-use Rattle.ppp_lcp.specs.declared.lcp_table.LcpTable.{LcpTable}
+use Rattle.ppp_lcp.specs.LcpSettings.{LcpSettings}
 use Rattle.ppp_lcp.specs.declared.lcp_table.TheConstants.{DEFAULT_MRU, LEAST_MRU, MOST_MRU, DEFAULT_ACCM, LEAST_MRRU, MOST_MRRU, LONG_CODE, SHORT_CODE, MOST_LONG_CLASSES, MOST_SHORT_CLASSES}
 
 -- Maximum-Receive-Unit (RFC 1661 section 6.1)
-abbrev pub mru_rule : LcpTable → Rule
-mru_rule t = record {
+abbrev pub mru_rule : LcpSettings → Rule
+mru_rule s = record {
   kind = kind_number Mru;
   most = 4;
   required = false;
-  first = λ word. then_some (not (t.mru == DEFAULT_MRU)) (two_octets t.mru);
+  first = λ word. then_some (not (s.mru == DEFAULT_MRU)) (two_octets s.mru);
   is_sent = is_within 2 LEAST_MRU MOST_MRU;
   is_set = λ body. true;
   is_known = λ body. true;
@@ -37,12 +37,12 @@ mru_rule t = record {
 abbrev pub accm_after : List ℕ → List ℕ → List ℕ
 accm_after last nak = if length nak == 4 then four_octets (bit_or (number last) (number nak)) else last
 
-abbrev pub accm_rule : LcpTable → Rule
-accm_rule t = record {
+abbrev pub accm_rule : LcpSettings → Rule
+accm_rule s = record {
   kind = kind_number Accm;
   most = 6;
   required = false;
-  first = λ word. then_some (not (t.accm == DEFAULT_ACCM)) (four_octets t.accm);
+  first = λ word. then_some (not (s.accm == DEFAULT_ACCM)) (four_octets s.accm);
   is_sent = λ body. length body == 4;
   is_set = λ body. true;
   is_known = λ body. true;
@@ -52,14 +52,14 @@ accm_rule t = record {
 }
 
 -- Magic-Number (RFC 1661 section 6.4)
-abbrev pub magic_rule : LcpTable → Rule
-magic_rule t = number_rule (kind_number Magic) false (λ word. then_some t.magic (four_octets (pick word 0)))
+abbrev pub magic_rule : LcpSettings → Rule
+magic_rule s = number_rule (kind_number Magic) false (λ word. then_some s.magic (four_octets (pick word 0)))
 
 -- a list's Magic-Number, or 0
 abbrev pub magic_of : List ConfigOption → ℕ
 magic_of list = number_of (kind_number Magic) 4 list
 
--- An option without a body: it is there or it isn't.
+-- An option without a body: it is there or it isn's.
 abbrev pub flag_rule : LcpKind → Bool → Bool → Rule
 flag_rule kind set known = record {
   kind = kind_number kind;
@@ -75,51 +75,51 @@ flag_rule kind set known = record {
 }
 
 -- whether this end does multilink
-abbrev pub is_multilink : LcpTable → Bool
-is_multilink t = not (t.mrru == 0)
+abbrev pub is_multilink : LcpSettings → Bool
+is_multilink s = not (s.mrru == 0)
 
 -- whether it asks for short headers, which only multilink has
-abbrev pub asks_short : LcpTable → Bool
-asks_short t = t.short && is_multilink t
+abbrev pub asks_short : LcpSettings → Bool
+asks_short s = s.short && is_multilink s
 
 -- Protocol-Field-Compression and Address-and-Control-Field-Compression (RFC 1661 sections 6.5 and 6.6), and
 -- Short-Sequence-Number-Header-Format (RFC 1990 section 5.1.2)
-abbrev pub pfc_rule : LcpTable → Rule
-pfc_rule t = flag_rule Pfc t.pfc true
+abbrev pub pfc_rule : LcpSettings → Rule
+pfc_rule s = flag_rule Pfc s.pfc true
 
-abbrev pub acfc_rule : LcpTable → Rule
-acfc_rule t = flag_rule Acfc t.acfc true
+abbrev pub acfc_rule : LcpSettings → Rule
+acfc_rule s = flag_rule Acfc s.acfc true
 
-abbrev pub short_rule : LcpTable → Rule
-short_rule t = flag_rule Short (asks_short t) (is_multilink t)
+abbrev pub short_rule : LcpSettings → Rule
+short_rule s = flag_rule Short (asks_short s) (is_multilink s)
 
 -- Maximum-Reconstructed-Receive-Unit (RFC 1990 section 5.1.1): a Nak lowers it
-abbrev pub mrru_rule : LcpTable → Rule
-mrru_rule t = record {
+abbrev pub mrru_rule : LcpSettings → Rule
+mrru_rule s = record {
   kind = kind_number Mrru;
   most = 4;
   required = false;
-  first = λ word. then_some (is_multilink t) (two_octets t.mrru);
+  first = λ word. then_some (is_multilink s) (two_octets s.mrru);
   is_sent = is_within 2 LEAST_MRRU MOST_MRRU;
-  is_set = λ body. is_multilink t && nat_le (number body) t.mrru;
-  is_known = λ body. is_multilink t;
+  is_set = λ body. is_multilink s && nat_le (number body) s.mrru;
+  is_known = λ body. is_multilink s;
   is_good = λ own body. (length body == 2) && nat_le LEAST_MRRU (number body);
   better = λ own body word. two_octets LEAST_MRRU;
-  after = λ last nak word. if is_within 2 LEAST_MRRU t.mrru nak then nak else last;
+  after = λ last nak word. if is_within 2 LEAST_MRRU s.mrru nak then nak else last;
 }
 
 -- Endpoint-Discriminator (RFC 1990 section 5.1.3)
-abbrev pub disc_body : LcpTable → List ℕ
-disc_body t = t.disc.class ∷ take t.disc.size t.disc.address
+abbrev pub disc_body : LcpSettings → List ℕ
+disc_body s = s.disc.0 ∷ s.disc.1
 
-abbrev pub disc_rule : LcpTable → Rule
-disc_rule t = record {
+abbrev pub disc_rule : LcpSettings → Rule
+disc_rule s = record {
   kind = kind_number Disc;
   most = 3 + MOST_ADDRESS;
   required = false;
-  first = λ word. then_some (not (t.disc.class == 0)) (disc_body t);
+  first = λ word. then_some (not (s.disc.0 == 0)) (disc_body s);
   is_sent = is_disc_body;
-  is_set = λ body. not (t.disc.class == 0) && bytes_eq body (disc_body t);
+  is_set = λ body. not (s.disc.0 == 0) && bytes_eq body (disc_body s);
   is_known = λ body. true;
   is_good = λ own body. is_disc_body body;
   better = λ own body word. 0 ∷ [];
@@ -131,14 +131,14 @@ abbrev pub is_link_disc : Option ℕ → List ℕ → Bool
 is_link_disc None body = false
 is_link_disc (Some n) body = bytes_eq body (two_octets n)
 
-abbrev pub link_disc_rule : LcpTable → Rule
-link_disc_rule t = record {
+abbrev pub link_disc_rule : LcpSettings → Rule
+link_disc_rule s = record {
   kind = kind_number LinkDisc;
   most = 4;
   required = false;
-  first = λ word. option_map two_octets t.link_disc;
+  first = λ word. option_map two_octets s.link_disc;
   is_sent = λ body. length body == 2;
-  is_set = is_link_disc t.link_disc;
+  is_set = is_link_disc s.link_disc;
   is_known = λ body. true;
   is_good = λ own body. length body == 2;
   better = λ own body word. two_octets 0;
@@ -146,16 +146,16 @@ link_disc_rule t = record {
 }
 
 -- the header's form with classes (after RFC 2686): its code, and how many classes this end takes
-abbrev pub has_classes : LcpTable → Bool
-has_classes t = not (t.classes == 0) && is_multilink t
+abbrev pub has_classes : LcpSettings → Bool
+has_classes s = not (s.classes == 0) && is_multilink s
 
-abbrev pub own_code : LcpTable → ℕ
-own_code t = if t.short then SHORT_CODE else LONG_CODE
+abbrev pub own_code : LcpSettings → ℕ
+own_code s = if s.short then SHORT_CODE else LONG_CODE
 
 -- the own code with at most the own count
-abbrev pub is_own_form : LcpTable → List ℕ → Bool
-is_own_form t (code ∷ count ∷ []) = (code == own_code t) && nat_le 1 count && nat_le count t.classes
-is_own_form t body = false
+abbrev pub is_own_form : LcpSettings → List ℕ → Bool
+is_own_form s (code ∷ count ∷ []) = (code == own_code s) && nat_le 1 count && nat_le count s.classes
+is_own_form s body = false
 
 -- the count in range that is the nearest
 abbrev pub nearest : ℕ → ℕ → ℕ
@@ -167,33 +167,33 @@ better_form (code ∷ count ∷ []) =
     else LONG_CODE ∷ nearest MOST_LONG_CLASSES count ∷ []
 better_form body = LONG_CODE ∷ 1 ∷ []
 
-abbrev pub classes_rule : LcpTable → Rule
-classes_rule t = record {
+abbrev pub classes_rule : LcpSettings → Rule
+classes_rule s = record {
   kind = kind_number Classes;
   most = 4;
   required = false;
-  first = λ word. then_some (has_classes t) (own_code t ∷ t.classes ∷ []);
+  first = λ word. then_some (has_classes s) (own_code s ∷ s.classes ∷ []);
   is_sent = is_classes_body;
-  is_set = λ body. has_classes t && is_own_form t body;
-  is_known = λ body. has_classes t;
+  is_set = λ body. has_classes s && is_own_form s body;
+  is_known = λ body. has_classes s;
   is_good = λ own. is_classes_body;
   better = λ own body word. better_form body;
-  after = λ last nak word. if is_own_form t nak then nak else last;
+  after = λ last nak word. if is_own_form s nak then nak else last;
 }
 
-abbrev pub lcp_rule : LcpTable → LcpKind → Rule
-lcp_rule t Mru = mru_rule t
-lcp_rule t Accm = accm_rule t
-lcp_rule t Magic = magic_rule t
-lcp_rule t Pfc = pfc_rule t
-lcp_rule t Acfc = acfc_rule t
-lcp_rule t Mrru = mrru_rule t
-lcp_rule t Short = short_rule t
-lcp_rule t Disc = disc_rule t
-lcp_rule t LinkDisc = link_disc_rule t
-lcp_rule t Classes = classes_rule t
+abbrev pub lcp_rule : LcpSettings → LcpKind → Rule
+lcp_rule s Mru = mru_rule s
+lcp_rule s Accm = accm_rule s
+lcp_rule s Magic = magic_rule s
+lcp_rule s Pfc = pfc_rule s
+lcp_rule s Acfc = acfc_rule s
+lcp_rule s Mrru = mrru_rule s
+lcp_rule s Short = short_rule s
+lcp_rule s Disc = disc_rule s
+lcp_rule s LinkDisc = link_disc_rule s
+lcp_rule s Classes = classes_rule s
 
-abbrev pub lcp_rules : LcpTable → List Rule
-lcp_rules t =
-    mru_rule t ∷ accm_rule t ∷ magic_rule t ∷ pfc_rule t ∷ acfc_rule t ∷ mrru_rule t ∷ short_rule t
-    ∷ disc_rule t ∷ link_disc_rule t ∷ classes_rule t ∷ []
+abbrev pub lcp_rules : LcpSettings → List Rule
+lcp_rules s =
+    mru_rule s ∷ accm_rule s ∷ magic_rule s ∷ pfc_rule s ∷ acfc_rule s ∷ mrru_rule s ∷ short_rule s
+    ∷ disc_rule s ∷ link_disc_rule s ∷ classes_rule s ∷ []

@@ -3,6 +3,7 @@
 ghost use Rattle.std.specs.Prelude.{ℕ, List};
 ghost use Rattle.ppp_packet.specs.ConfigOption.{ConfigOption};
 ghost use Rattle.ppp_options.specs.Rules.{IsAsked};
+ghost use Rattle.ppp_lcp.specs.LcpSettings.{settings_seen};
 ghost use Rattle.ppp_lcp.specs.LcpTable.{lcp_rules};
 ghost use Rattle.ppp_lcp.specs.Settings.{KeepsSettings};
 
@@ -13,14 +14,14 @@ use ppp_auto::OptionTable;
 /// list is one that is asked for, what a Nak or a Reject makes of such a list is one, and each such list keeps to the
 /// settings in the options 7, 8, 17, 18, 19, 23 and 27.
 pub fn settings_kept(table: &LcpTable)
-    ensures first { (word : ℕ) → IsAsked (lcp_rules table.now)
+    ensures first { (word : ℕ) → IsAsked (lcp_rules (settings_seen table.now))
         ((⟦<LcpTable as OptionTable>⟧.table table.now).initial word) }
-    ensures nak { (last nak : List ConfigOption) (word : ℕ) → IsAsked (lcp_rules table.now) last →
-        IsAsked (lcp_rules table.now)
+    ensures nak { (last nak : List ConfigOption) (word : ℕ) → IsAsked (lcp_rules (settings_seen table.now)) last →
+        IsAsked (lcp_rules (settings_seen table.now))
         ((⟦<LcpTable as OptionTable>⟧.table table.now).adapt_nak last nak word) }
     ensures reject { (last reject : List ConfigOption) (word : ℕ) →
-        IsAsked (lcp_rules table.now) last → IsAsked (lcp_rules table.now)
+        IsAsked (lcp_rules (settings_seen table.now)) last → IsAsked (lcp_rules (settings_seen table.now))
         ((⟦<LcpTable as OptionTable>⟧.table table.now).adapt_reject last reject word) }
-    ensures settings { (list : List ConfigOption) → IsAsked (lcp_rules table.now) list →
-        KeepsSettings table.now list }
+    ensures settings { (list : List ConfigOption) → IsAsked (lcp_rules (settings_seen table.now)) list →
+        KeepsSettings (settings_seen table.now) list }
 {}

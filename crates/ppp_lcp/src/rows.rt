@@ -14,11 +14,11 @@ ghost use Rattle.ppp_options.specs.DiffersLaw.{differs-both_ways};
 ghost use Rattle.ppp_options.specs.RuleLaw.{rules_lawful};
 ghost use Rattle.ppp_options.specs.Rules.{first_option, verdict, table_by, Sendable, IsUnknown, Allows};
 ghost use Rattle.ppp_lcp.specs.LcpKind.{kind_number};
-ghost use Rattle.ppp_lcp.specs.LcpLaw.{lcp_is_table, lcp_fits};
+ghost use Rattle.ppp_lcp.specs.LcpLaw.{lcp_is_table, lcp_fits, table_ranged};
 ghost use Rattle.ppp_lcp.specs.LcpRanges.{is_disc_body, is_classes_body};
+ghost use Rattle.ppp_lcp.specs.LcpSettings.{LcpSettings, settings_seen};
 ghost use Rattle.ppp_lcp.specs.LcpTable as spec;
 ghost use Rattle.ppp_lcp.specs.declared.lcp_kind.LcpKind.TheVariants.{Accm, Magic, Disc, Classes};
-ghost use Rattle.ppp_lcp.specs.declared.lcp_table.LcpTable.{LcpTable};
 
 use crate::lcp_kind::LcpKind;
 use crate::lcp_table::{
@@ -36,7 +36,7 @@ use ppp_packet::{DiscClass, MOST_ADDRESS, Opt, OptList, OptRef, Options};
 const KINDS: [u8; 10] = [1, 2, 5, 7, 8, 17, 18, 19, 23, 27];
 
 impl OptionRules for LcpTable {
-    ghost rules = { spec.lcp_rules };
+    ghost rules = { λ t. spec.lcp_rules (settings_seen t) };
 
     fn kinds(&self) -> &[u8] {
         &KINDS
@@ -63,7 +63,7 @@ impl OptionRules for LcpTable {
         }
     }
 
-    ghost is_table = { lcp_is_table };
+    ghost is_table = { λ t. lcp_is_table (settings_seen t) (table_ranged t) };
 }
 
 impl OptionTable for LcpTable {
@@ -75,13 +75,13 @@ impl OptionTable for LcpTable {
 
     ghost EXTENDED = { true };
 
-    ghost table = { λ t. table_by true (spec.lcp_rules t) spec.magic_of };
+    ghost table = { λ t. table_by true (spec.lcp_rules (settings_seen t)) spec.magic_of };
 
-    ghost sendable = { λ t. Sendable (spec.lcp_rules t) };
+    ghost sendable = { λ t. Sendable (spec.lcp_rules (settings_seen t)) };
 
-    ghost unknown = { λ t. IsUnknown (spec.lcp_rules t) };
+    ghost unknown = { λ t. IsUnknown (spec.lcp_rules (settings_seen t)) };
 
-    ghost allows = { λ t. Allows (spec.lcp_rules t) };
+    ghost allows = { λ t. Allows (spec.lcp_rules (settings_seen t)) };
 
     ghost compat = { Differs 5 4 };
 
@@ -112,8 +112,8 @@ impl OptionTable for LcpTable {
         number_of_u32(mine, LcpKind::Magic.number())
     }
 
-    ghost lawful = { λ t. rules_lawful true (spec.lcp_rules t) spec.magic_of (Differs 5 4) (lcp_is_table t)
-        (lcp_fits t) (differs-both_ways 5 4) };
+    ghost lawful = { λ t. rules_lawful true (spec.lcp_rules (settings_seen t)) spec.magic_of (Differs 5 4) (lcp_is_table (settings_seen t) (table_ranged t))
+        (lcp_fits (settings_seen t)) (differs-both_ways 5 4) };
 
     ghost extends = { λ t. refl };
 }
@@ -121,7 +121,7 @@ impl OptionTable for LcpTable {
 impl LcpTable {
     /// The option of this Type that is asked for first, if one is.
     fn first_of(&self, kind: LcpKind, word: u64) -> Option<Opt>
-        ensures { result ≡ first_option (spec.lcp_rule self.now kind) word }
+        ensures { result ≡ first_option (spec.lcp_rule (settings_seen self.now) kind) word }
     {
         match kind {
             LcpKind::Mru => (self.mru != DEFAULT_MRU).then_some(number_option(kind, self.mru)),
@@ -141,7 +141,7 @@ impl LcpTable {
 
     /// What is thought of a peer's option of this Type.
     fn verdict(&self, kind: LcpKind, own: &OptList, body: &[u8], word: u64) -> Verdict
-        ensures { result ≡ verdict (spec.lcp_rule self.now kind) own.now body.now word }
+        ensures { result ≡ verdict (spec.lcp_rule (settings_seen self.now) kind) own.now body.now word }
     {
         if !self.is_known(kind) {
             Verdict::Unknown
@@ -154,7 +154,7 @@ impl LcpTable {
 
     /// Whether a peer's options of this Type are known.
     fn is_known(&self, kind: LcpKind) -> bool
-        ensures { (body : List ℕ) → result ≡ (spec.lcp_rule self.now kind).is_known body }
+        ensures { (body : List ℕ) → result ≡ (spec.lcp_rule (settings_seen self.now) kind).is_known body }
     {
         match kind {
             LcpKind::Mrru | LcpKind::Short => self.is_multilink(),
@@ -165,9 +165,9 @@ impl LcpTable {
 
     /// What a Configure-Nak with a body makes of an own option of this Type that may be asked for.
     fn after(&self, kind: LcpKind, last: &[u8], nak: &[u8], word: u64) -> Opt
-        requires { IsTrue ((spec.lcp_rule self.now kind).is_sent last.now) }
+        requires { IsTrue ((spec.lcp_rule (settings_seen self.now) kind).is_sent last.now) }
         ensures { result ≡ option_with (kind_number kind)
-            ((spec.lcp_rule self.now kind).after last.now nak.now word) }
+            ((spec.lcp_rule (settings_seen self.now) kind).after last.now nak.now word) }
     {
         match kind {
             LcpKind::Accm => accm_after(last, nak),
@@ -181,7 +181,7 @@ impl LcpTable {
         requires accm { kind ≢ Accm }
         requires magic { kind ≢ Magic }
         ensures { (word : ℕ) → result.now
-            ≡ (spec.lcp_rule self.now kind).after last.now nak.now word }
+            ≡ (spec.lcp_rule (settings_seen self.now) kind).after last.now nak.now word }
     {
         if self.takes(kind, nak) { nak } else { last }
     }
@@ -190,7 +190,7 @@ impl LcpTable {
     fn takes(&self, kind: LcpKind, nak: &[u8]) -> bool
         requires accm { kind ≢ Accm }
         requires magic { kind ≢ Magic }
-        ensures { (last : List ℕ) (word : ℕ) → (spec.lcp_rule self.now kind).after last nak.now word
+        ensures { (last : List ℕ) (word : ℕ) → (spec.lcp_rule (settings_seen self.now) kind).after last nak.now word
             ≡ (if result then nak.now else last) }
     {
         match kind {
@@ -203,35 +203,35 @@ impl LcpTable {
 
     /// Whether this end does multilink.
     fn is_multilink(&self) -> bool
-        ensures { result ≡ spec.is_multilink self.now }
+        ensures { result ≡ spec.is_multilink (settings_seen self.now) }
     {
         self.mrru != 0
     }
 
     /// Whether it takes classes.
     fn has_classes(&self) -> bool
-        ensures { result ≡ spec.has_classes self.now }
+        ensures { result ≡ spec.has_classes (settings_seen self.now) }
     {
         self.classes != 0 && self.is_multilink()
     }
 
     /// The code of the own multilink headers with classes.
     fn own_code(&self) -> u8
-        ensures { result ≡ spec.own_code self.now }
+        ensures { result ≡ spec.own_code (settings_seen self.now) }
     {
         if self.short { SHORT_CODE } else { LONG_CODE }
     }
 
     /// Whether a body has the own code with at most the own count of classes.
     fn is_own_form(&self, body: &[u8]) -> bool
-        ensures { result ≡ spec.is_own_form self.now body.now }
+        ensures { result ≡ spec.is_own_form (settings_seen self.now) body.now }
     {
         body.len() == 2 && body[0] == self.own_code() && (1..=self.classes).contains(&body[1])
     }
 
     /// The option of the own endpoint discriminator.
     fn disc_option(&self) -> Opt
-        ensures { result ≡ option_with (kind_number Disc) (spec.disc_body self.now) }
+        ensures { result ≡ option_with (kind_number Disc) (spec.disc_body (settings_seen self.now)) }
     {
         let mut body = [0; 21];
         let size = usize::from(self.disc.size);
@@ -242,7 +242,7 @@ impl LcpTable {
 
     /// The option of the own number of the link, if it has one.
     fn link_disc_option(&self) -> Option<Opt>
-        ensures { result ≡ first_option (spec.link_disc_rule self.now) 0 }
+        ensures { result ≡ first_option (spec.link_disc_rule (settings_seen self.now)) 0 }
     {
         match self.link_disc {
             Some(number) => Some(number_option(LcpKind::LinkDisc, number)),
@@ -253,7 +253,7 @@ impl LcpTable {
     /// The option of the own count of classes.
     fn classes_option(&self) -> Opt
         ensures { result ≡ option_with (kind_number Classes)
-            (spec.own_code self.now ∷ self.now.classes ∷ []) }
+            (spec.own_code (settings_seen self.now) ∷ self.now.classes ∷ []) }
     {
         Opt::new(LcpKind::Classes.number(), &[self.own_code(), self.classes])
     }
@@ -261,7 +261,7 @@ impl LcpTable {
 
 /// Whether an own option of this Type may be asked for.
 fn is_sent(kind: LcpKind, body: &[u8]) -> bool
-    ensures { (t : LcpTable) → result ≡ (spec.lcp_rule t kind).is_sent body.now }
+    ensures { (t : LcpSettings) → result ≡ (spec.lcp_rule t kind).is_sent body.now }
 {
     match kind {
         LcpKind::Mru => is_within_u16(LEAST_MRU, MOST_MRU, body),
@@ -277,7 +277,7 @@ fn is_sent(kind: LcpKind, body: &[u8]) -> bool
 
 /// Whether a peer's option of this Type, which is known, is good.
 fn is_good(kind: LcpKind, own: &OptList, body: &[u8]) -> bool
-    ensures { (t : LcpTable) → result ≡ (spec.lcp_rule t kind).is_good own.now body.now }
+    ensures { (t : LcpSettings) → result ≡ (spec.lcp_rule t kind).is_good own.now body.now }
 {
     match kind {
         LcpKind::Mru => body.len() == 2 && LEAST_MRU <= number_u16(body),
@@ -293,7 +293,7 @@ fn is_good(kind: LcpKind, own: &OptList, body: &[u8]) -> bool
 
 /// What is suggested in the place of a peer's option of this Type that isn't good.
 fn better(kind: LcpKind, own: &OptList, body: &[u8], word: u64) -> Opt
-    ensures { (t : LcpTable) → result
+    ensures { (t : LcpSettings) → result
         ≡ option_with (kind_number kind) ((spec.lcp_rule t kind).better own.now body.now word) }
 {
     match kind {
