@@ -8,7 +8,7 @@ use Rattle.ppp_packet.specs.Options.{option_with}
 use Rattle.ppp_duet.specs.Duet.{Duet}
 use Rattle.ppp_auto.specs.Reply.{same_option, same_list}
 use Rattle.ppp_duet.specs.Agreement.{Agree}
-use Rattle.ppp_world.specs.Lcp.{Sendable, Allows, Compatible}
+use Rattle.ppp_world.specs.Settings.{Settings}
 use Rattle.ppp_packet.specs.declared.proto.Proto.{Proto}
 use Rattle.ppp_auto.specs.Auto.{is_opened}
 use Rattle.ppp_auto.specs.declared.auto_state.AutoState.{AutoState}
@@ -42,41 +42,33 @@ same_list-only (a ∷ as') (b ∷ bs) h =
 all_seven : (a b c d e f g : Bool) → a ≡ true → b ≡ true → c ≡ true → d ≡ true → e ≡ true → f ≡ true → g ≡ true → (a && b && c && d && e && f && g) ≡ true
 all_seven a b c d e f g p q r s t u v = grind arith
 
-pub agrees-if : (d : Duet) → Agree Sendable Sendable Allows Allows Compatible d → agrees d ≡ true
-agrees-if d h =
+pub agrees-if : (s : Settings) (d : Duet) → AreOpened d → AgreesIfOpened s d → agrees s d ≡ true
+agrees-if s d opened agree =
+    let h = agree opened in
     all_seven _ _ _ _ _ _ _
     (same_list-if d.a.auto.own d.b.auto.peer h.a_acked)
     (same_list-if d.b.auto.own d.a.auto.peer h.b_acked)
     h.a_sends h.b_sends h.b_allows h.a_allows h.fits
 
--- the test on two lists
-pub same_test : (result : Bool) (one other read : List ConfigOption) → (IsTrue result ↔ (one ≡ read)) → read ≡ other → result ≡ same_list one other
-same_test true one other read is reads = sym (same_list-if one other (is.0 refl ∙ reads))
-same_test false one other read is reads = differs (same_list one other) refl
-  where
-    differs : (b : Bool) → same_list one other ≡ b → false ≡ b
-    differs false e = refl
-    differs true e = is.1 (same_list-only one other e ∙ sym reads)
-
 opened_is : (s : AutoState) → is_opened s ≡ true → s ≡ Opened
 opened_is s h = grind arith
 
 -- no report says that two ends disagree that agree if they are Opened
-pub never_disagrees : (d : Duet) → AgreesIfOpened d → agree_of d ≢ Some false
-never_disagrees d agree = not_false (is_opened d.a.auto.state) (is_opened d.b.auto.state) refl refl
+pub never_disagrees : (s : Settings) (d : Duet) → AgreesIfOpened s d → agree_of s d ≢ Some false
+never_disagrees s d agree = not_false (is_opened d.a.auto.state) (is_opened d.b.auto.state) refl refl
   where
     not_false : (a b : Bool) → is_opened d.a.auto.state ≡ a → is_opened d.b.auto.state ≡ b →
-        agree_terms (if a then Some (terms_at d.a) else None) (if b then Some (terms_at d.b) else None) ≡ Some false → ⊥
-    not_false true true at_a at_b is = let yes = agrees-if d (agree (record { at_a = opened_is _ at_a; at_b = opened_is _ at_b })) in cc
+        agree_terms s (if a then Some (terms_at d.a) else None) (if b then Some (terms_at d.b) else None) ≡ Some false → ⊥
+    not_false true true at_a at_b is = let yes = agrees-if s d (record { at_a = opened_is _ at_a; at_b = opened_is _ at_b }) agree in cc
     not_false true false at_a at_b is = cc
     not_false false b at_a at_b is = cc
 
 -- whether two ends agree is told exactly where both are Opened
-pub told_opened : (d : Duet) → IsNone (agree_of d) ↔ ¬ (AreOpened d)
-told_opened d = by_tests (is_opened d.a.auto.state) (is_opened d.b.auto.state) refl refl
+pub told_opened : (s : Settings) (d : Duet) → IsNone (agree_of s d) ↔ ¬ (AreOpened d)
+told_opened s d = by_tests (is_opened d.a.auto.state) (is_opened d.b.auto.state) refl refl
   where
     by_tests : (a b : Bool) → is_opened d.a.auto.state ≡ a → is_opened d.b.auto.state ≡ b →
-        IsNone (agree_terms (if a then Some (terms_at d.a) else None) (if b then Some (terms_at d.b) else None)) ↔ ¬ (AreOpened d)
+        IsNone (agree_terms s (if a then Some (terms_at d.a) else None) (if b then Some (terms_at d.b) else None)) ↔ ¬ (AreOpened d)
     by_tests true true at_a at_b = (λ none. absurd (cc), λ out. absurd (out (record { at_a = opened_is _ at_a; at_b = opened_is _ at_b })))
     by_tests true false at_a at_b = (λ none. λ opened. let b = ap is_opened opened.at_b in cc, λ out. refl)
     by_tests false b at_a at_b = (λ none. λ opened. let a = ap is_opened opened.at_a in cc, λ out. refl)
@@ -84,17 +76,17 @@ told_opened d = by_tests (is_opened d.a.auto.state) (is_opened d.b.auto.state) r
 there : (link : ℕ) (proto : Proto) (d : Duet) → (duet_at link proto d ≡ Some d) ⊎ (duet_at link proto d ≡ None)
 there link proto d = grind (arith, nat_tests)
 
-pub agrees_at : (link : ℕ) (proto : Proto) (d : Duet) → AgreesIfOpened d → AgreesAt link proto d
-agrees_at link proto d agree = record {
+pub agrees_at : (s : Settings) (link : ℕ) (proto : Proto) (d : Duet) → AgreesIfOpened s d → AgreesAt s link proto d
+agrees_at s link proto d agree = record {
   agree = elim (there link proto d) [ inl is ↦ rw is agree | inr none ↦ rw none tt ];
-  told = elim (there link proto d) [ inl is ↦ rw is (never_disagrees d agree) | inr none ↦ rw none (λ no. cc) ];
+  told = elim (there link proto d) [ inl is ↦ rw is (never_disagrees s d agree) | inr none ↦ rw none (λ no. cc) ];
 }
 
-pub told_at : (link : ℕ) (proto : Proto) (d : Duet) → IsNone (agree_at link proto d) ↔ ¬ (AreOpenedAt link proto d)
-told_at link proto d = elim (there link proto d) [
+pub told_at : (s : Settings) (link : ℕ) (proto : Proto) (d : Duet) → IsNone (agree_at s link proto d) ↔ ¬ (AreOpenedAt link proto d)
+told_at s link proto d = elim (there link proto d) [
   | inl is ↦ (
-    λ none. λ at. let same : d ≡ at.duet = (let here = at.there in cc) in (told_opened d).0 (rw is at none) (rw same at.opened),
-    λ out. rw is ((told_opened d).1 (λ opened. out (record { duet = d; there = is; opened = opened }))),
+    λ none. λ at. let same : d ≡ at.duet = (let here = at.there in cc) in (told_opened s d).0 (rw is at none) (rw same at.opened),
+    λ out. rw is ((told_opened s d).1 (λ opened. out (record { duet = d; there = is; opened = opened }))),
   )
   | inr nowhere ↦ (λ none. λ at. let here = at.there in cc, λ out. rw nowhere refl)
 ]

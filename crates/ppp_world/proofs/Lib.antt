@@ -1,13 +1,12 @@
 pub mod AgreementLemmas
-pub mod Allowing
 pub mod FrameLemmas
 pub mod HexLemmas
-pub mod LcpLemmas
 pub mod LedgerLemmas
 pub mod PartyLemmas
 pub mod QueueLemmas
 pub mod ReplayLemmas
 pub mod RunLemmas
+pub mod SettingsLemmas
 pub mod StepLemmas
 pub mod TwoEndsLemmas
 pub mod WorldLemmas

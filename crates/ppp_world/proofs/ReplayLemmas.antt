@@ -65,11 +65,11 @@ no_refusal None is = refl
 no_refusal (Some refused) is = absurd (cc)
 
 pub replays_all : (s : Settings) (all : List Event) (now : World) → ReplaysOn s all now [] →
-    (now.report ≡ report (before_refusal (run_of s all))) × (None ≡ refusal (run_of s all)) × (now.report ≡ report (run_of s all))
+    (now.report ≡ report s (before_refusal (run_of s all))) × (None ≡ refusal (run_of s all)) × (now.report ≡ report s (run_of s all))
 replays_all s all now far =
     let whole = rw far.same at (follows s all) in
     let none = no_refusal (refusal (run_of s all)) (sym far.going ∙ whole.halt) in
-    (whole.report, sym none, whole.report ∙ ap report (before_refusal-none (run_of s all) none))
+    (whole.report, sym none, whole.report ∙ ap (report s) (before_refusal-none (run_of s all) none))
 
 -- at a refusal
 halt_answered : (o : Option WorldFault) (fault : WorldFault) → Err fault ≡ answer_of o → o ≡ Some fault
@@ -85,7 +85,7 @@ the_refusal (Some r) steps fault is next = same_refusal r.step r.fault next (cc)
 
 replays_refused : (s : Settings) (all : List Event) (now next : World) (rest more : List Event) (event : Event) (fault : Outstanding') → rest ≡ event ∷ more →
     next.halt ≡ Some (Outstanding fault) → UnlessMemory next.halt (next ≡ world_after now event) → ReplaysOn s all now rest →
-    (next.report ≡ report (before_refusal (run_of s all))) × (refusal_in (next.steps + 1) (Outstanding fault) ≡ refusal (run_of s all))
+    (next.report ≡ report s (before_refusal (run_of s all))) × (refusal_in (next.steps + 1) (Outstanding fault) ≡ refusal (run_of s all))
 replays_refused s all now next rest more event fault is why done far =
     let did = refused_if next.halt fault why done in
     let same = (rw is at far.same) ∙ ap (λ w. world_after_all w more) (sym did) ∙ halted_all next more (Outstanding fault) why in
@@ -95,7 +95,7 @@ replays_refused s all now next rest more event fault is why done far =
 -- however the world refused, what the replay comes to is right, if it comes to something
 pub replays_stopped : (s : Settings) (all : List Event) (now next : World) (rest more : List Event) (event : Event) (answer : Result (Unit {0}) WorldFault) (why : WorldFault) (refused : Option Refusal) → rest ≡ event ∷ more →
     answer ≡ answer_of next.halt → answer ≡ Err why → UnlessMemory next.halt (next ≡ world_after now event) → ReplaysOn s all now rest → refused ≡ refusal_in (next.steps + 1) why → IsSome refused →
-    (next.report ≡ report (before_refusal (run_of s all))) × (refused ≡ refusal (run_of s all))
+    (next.report ≡ report s (before_refusal (run_of s all))) × (refused ≡ refusal (run_of s all))
 replays_stopped s all now next rest more event answer Memory refused is answers err done far refused_is some = absurd (cc)
 replays_stopped s all now next rest more event answer (Outstanding fault) refused is answers err done far refused_is some =
     let both = replays_refused s all now next rest more event fault is (halt_answered next.halt _ (sym err ∙ answers)) done far in

@@ -1,5 +1,5 @@
 -- In every state of a run that isn't refused two Opened ends agree.
-use Rattle.std.proofs.Common.{◌≡◌, ℕ, zero, suc, ◌+◌, List, [], ◌∷◌, ◌++◌, length, refl, sym, ap, subst, arith}
+use Rattle.std.proofs.Common.{◌≡◌, true, ℕ, zero, suc, ◌+◌, List, [], ◌∷◌, ◌++◌, length, refl, sym, ap, subst, arith}
 use Rattle.std.specs.Prelude.{Option, Some, None, ⊤}
 use Rattle.std.proofs.lemmas.List.Elements.{All-nil, All-cons}
 use Rattle.ppp_duet.specs.Duet.{Duet}
@@ -11,26 +11,33 @@ use Rattle.ppp_duet.proofs.SpanLemmas.{narrow_start}
 use Rattle.ppp_script.specs.Event.{steps_in}
 use Rattle.ppp_script.specs.declared.event.Event.{Event}
 use Rattle.ppp_script.specs.declared.event.Event.TheVariants.{Up, Down, AdminOpen, AdminClose, Timeout, Deliver, Lose, Settle, Show}
-use Rattle.ppp_world.specs.Agreement.{AgreesIfOpened, AgreesEverywhere}
-use Rattle.ppp_world.specs.Lcp.{Sendable, IsUnknown, Allows, Compatible}
-use Rattle.ppp_world.specs.LcpLawful.{lcp_lawful}
-use Rattle.ppp_world.specs.LcpSettings.{LcpSettings}
+use Rattle.ppp_world.specs.Agreement.{AgreesIfOpened, AgreesEverywhere, Fits}
+use Rattle.ppp_auto.specs.Lawful.{Lawful}
+use Rattle.ppp_lcp.specs.LcpLaw.{lcp_fits, lcp_is_table}
+use Rattle.ppp_lcp.specs.LcpSettings.{IsRanged, LcpSettings}
+use Rattle.ppp_lcp.specs.LcpTable.{lcp_rules, magic_of}
+use Rattle.ppp_options.specs.DiffersLaw.{differs-both_ways}
+use Rattle.ppp_options.specs.RuleLaw.{rules_lawful}
+use Rattle.ppp_options.specs.Rules.{Allows, IsUnknown, Sendable}
 use Rattle.ppp_world.specs.Outstanding.{outstanding_in}
 use Rattle.ppp_world.specs.Run.{Moment, Place, moment_at, after_moment, deliveries, moments_by, moments_of, place_after, run_from, place_begun, run_of, before_refusal, kept_with, AgreesThroughout, AgreesInRun}
-use Rattle.ppp_world.specs.Settings.{Settings, AreRanged, default_settings, setup_of}
+use Rattle.ppp_world.specs.Settings.{Settings, AreRanged, lcp_table, setup_of}
 use Rattle.ppp_world.specs.Step.{settling, next_delivery}
 use Rattle.ppp_world.specs.declared.outstanding.Outstanding.{Outstanding}
 use Rattle.ppp_world.proofs.AgreementLemmas.{agrees_at}
 use Rattle.ppp_world.proofs.StepLemmas.{narrow_of, reached_step}
 
 lcp_terms : LcpSettings → Terms
-lcp_terms s = record { setup = setup_of s; keeps = Sendable; unknown = IsUnknown; allows = Allows }
+lcp_terms s = record { setup = setup_of s; keeps = Sendable (lcp_rules s); unknown = IsUnknown (lcp_rules s); allows = Allows (lcp_rules s) }
+
+lcp_lawful : (s : LcpSettings) → IsRanged s → Lawful (lcp_table s) (Sendable (lcp_rules s)) (IsUnknown (lcp_rules s)) (Allows (lcp_rules s)) Fits
+lcp_lawful s ranged = rules_lawful true (lcp_rules s) magic_of Fits (lcp_is_table s ranged) (lcp_fits s) (differs-both_ways 5 4)
 
 -- two Opened ends agree, wherever the steps led
-pub agreed : (s : Settings) → AreRanged s → (d : Duet) → Reached (setup_of s.a) (setup_of s.b) d → AgreesIfOpened d
+pub agreed : (s : Settings) → AreRanged s → (d : Duet) → Reached (setup_of s.a) (setup_of s.b) d → AgreesIfOpened s d
 unfolding lcp_terms
 agreed s ranged d r opened =
-    agreement_at Compatible (lcp_terms s.a) (lcp_terms s.b) (lcp_lawful s.a ranged.of_a) (lcp_lawful s.b ranged.of_b) d r opened.at_a opened.at_b
+    agreement_at Fits (lcp_terms s.a) (lcp_terms s.b) (lcp_lawful s.a ranged.of_a) (lcp_lawful s.b ranged.of_b) d r opened.at_a opened.at_b
 
 -- each moment of a run goes on from the one before
 abbrev pub Linked : Settings → Place → List Moment → Type 0
@@ -80,15 +87,15 @@ steps-settling event count is = grind arith
 pub steps-other : (event : Event) → settling event ≡ None → steps_in event ≡ 1
 steps-other event is = grind arith
 
-kept_agree : (m : Moment) (ms : List Moment) (fault : Option Outstanding) → AgreesEverywhere m.after → (fault ≡ None → AgreesThroughout ms) → AgreesThroughout (kept_with m fault ms)
-kept_agree m ms (Some fault) here later = All-nil (λ (x : Moment). AgreesEverywhere x.after)
-kept_agree m ms None here later = All-cons (λ (x : Moment). AgreesEverywhere x.after) m ms here (later refl)
+kept_agree : (s : Settings) (m : Moment) (ms : List Moment) (fault : Option Outstanding) → AgreesEverywhere s m.after → (fault ≡ None → AgreesThroughout s ms) → AgreesThroughout s (kept_with m fault ms)
+kept_agree s m ms (Some fault) here later = All-nil (λ (x : Moment). AgreesEverywhere s x.after)
+kept_agree s m ms None here later = All-cons (λ (x : Moment). AgreesEverywhere s x.after) m ms here (later refl)
 
-each_linked : (s : Settings) → AreRanged s → (p : Place) (ms : List Moment) → Linked s p ms → Narrow p.duet → Reached (setup_of s.a) (setup_of s.b) p.duet → AgreesThroughout (before_refusal ms)
-each_linked s ranged p [] links narrow r = All-nil (λ (x : Moment). AgreesEverywhere x.after)
+each_linked : (s : Settings) → AreRanged s → (p : Place) (ms : List Moment) → Linked s p ms → Narrow p.duet → Reached (setup_of s.a) (setup_of s.b) p.duet → AgreesThroughout s (before_refusal ms)
+each_linked s ranged p [] links narrow r = All-nil (λ (x : Moment). AgreesEverywhere s x.after)
 each_linked s ranged p (m ∷ ms) links narrow r =
     let reached : Reached (setup_of s.a) (setup_of s.b) m.after = subst (λ (x : Moment). Reached (setup_of s.a) (setup_of s.b) x.after) (sym links.0) (reached_step s (p.done + 1) p.duet m.step narrow r) in
-    kept_agree m (before_refusal ms) (outstanding_in m.after) (λ link proto. agrees_at link proto m.after (agreed s ranged m.after reached))
+    kept_agree s m (before_refusal ms) (outstanding_in m.after) (λ link proto. agrees_at s link proto m.after (agreed s ranged m.after reached))
     (λ none. each_linked s ranged (after_moment m) ms links.1 (narrow_of m.after none) reached)
 
 -- From the start to the first step that is refused two Opened ends agree.
@@ -96,9 +103,6 @@ pub agrees_in_run : (s : Settings) → AreRanged s → (events : List Event) →
 agrees_in_run s ranged events =
     let sa = setup_of s.a in let sb = setup_of s.b in let d = (place_begun s).duet in
     record {
-      first = λ link proto. agrees_at link proto d (agreed s ranged d (reached_start sa sb));
+      first = λ link proto. agrees_at s link proto d (agreed s ranged d (reached_start sa sb));
       each = each_linked s ranged (place_begun s) (run_of s events) (linked_run s (place_begun s) events) (narrow_start sa sb) (reached_start sa sb);
     }
-
-pub ranged_by_default : AreRanged default_settings
-ranged_by_default = record { of_a = record { least = omega arith; most = omega arith }; of_b = record { least = omega arith; most = omega arith } }

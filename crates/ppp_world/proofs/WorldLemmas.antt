@@ -117,7 +117,7 @@ halt_of o = option_map (λ r. Outstanding r.fault) o
 
 -- What a world that hasn't halted makes of moments: it does and reports those before the first that is refused.
 pub record Becomes (w : World) (ms : List Moment) (end : World) : Type 0 where
-  pub report : end.report ≡ w.report ++ report (before_refusal ms)
+  pub report : end.report ≡ w.report ++ report w.settings (before_refusal ms)
   pub halt : end.halt ≡ halt_of (refusal ms)
   pub next : IsNextAfter end.steps (refusal ms)
 
@@ -127,7 +127,7 @@ becomes_one : (o : Option Outstanding') (w : World) (m : Moment) (ms : List Mome
 becomes_one None w m ms is number rest =
     let below = rest refl in
     record {
-      report = below.report ∙ (rw is (append_assoc w.report (shown m) (report (before_refusal ms))));
+      report = below.report ∙ (rw is (append_assoc w.report (shown w.settings m) (report w.settings (before_refusal ms))));
       halt = rw is below.halt;
       next = rw is below.next;
     }
@@ -197,7 +197,7 @@ unfolding does_moment
 open_step old steps text step = refl
 
 pub done_as : (old new : TwoEnds) (steps : ℕ) (text longer : List ℕ) (step : Step) → settings_of new ≡ settings_of old → AreQueues new.to_a new.to_b →
-    duet_seen new ≡ moved (settings_of old) (steps + 1) (duet_seen old) step → outstanding_in (duet_seen new) ≡ None → longer ≡ text ++ shown_at (steps + 1) (duet_seen new) step →
+    duet_seen new ≡ moved (settings_of old) (steps + 1) (duet_seen old) step → outstanding_in (duet_seen new) ≡ None → longer ≡ text ++ shown_at (settings_of new) (steps + 1) (duet_seen new) step →
     world_of new (steps + 1) longer None ≡ does_step (world_of old steps text None) step
 done_as old new steps text longer step same queues is none shows =
     ap (λ (l : Line). record (world_of new (steps + 1) longer None) { line = l }) (line_is new queues)

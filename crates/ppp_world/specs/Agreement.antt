@@ -9,8 +9,13 @@ use Rattle.ppp_auto.specs.Reply.{same_list}
 use Rattle.ppp_auto.specs.declared.auto_state.AutoState.TheVariants.{Opened}
 use Rattle.ppp_duet.specs.Duet.{Duet, End}
 use Rattle.ppp_duet.specs.Agreement.{Agree}
-use Rattle.ppp_world.specs.Lcp.{Sendable, Allows, Compatible, is_sendable, is_allowed, is_compatible}
-use Rattle.ppp_world.specs.declared.agreement.Terms.{Terms as Terms'}
+use Rattle.ppp_lcp.specs.LcpKind.{kind_number}
+use Rattle.ppp_lcp.specs.LcpSettings.{LcpSettings}
+use Rattle.ppp_lcp.specs.LcpTable.{lcp_rules}
+use Rattle.ppp_lcp.specs.declared.lcp_kind.LcpKind.TheVariants.{Magic}
+use Rattle.ppp_options.specs.Differs.{Differs, differs}
+use Rattle.ppp_options.specs.Rules.{Allows, Sendable, is_allowed, is_sendable}
+use Rattle.ppp_world.specs.Settings.{Settings}
 use Rattle.ppp_world.specs.declared.step.TheConstants.{ONLY_LINK}
 
 -- the two ends of a protocol on a link: there is one link, with one protocol
@@ -27,9 +32,6 @@ pub record Terms : Type 0 where
   pub peer : List ConfigOption
   pub against : List ConfigOption
 
-abbrev pub terms_seen : Terms' → Terms
-terms_seen t = record { own = t.own.now; peer = t.peer.now; against = t.against }
-
 abbrev pub terms_at : End → Terms
 terms_at e = record { own = e.auto.own; peer = e.auto.peer; against = e.against }
 
@@ -37,31 +39,38 @@ terms_at e = record { own = e.auto.own; peer = e.auto.peer; against = e.against 
 abbrev pub terms_of : End → Option Terms
 terms_of e = if is_opened e.auto.state then Some (terms_at e) else None
 
+-- two lists of LCP fit where they don't have the same Magic-Number (RFC 1661 section 6.4)
+abbrev pub fits : List ConfigOption → List ConfigOption → Bool
+fits one other = differs (kind_number Magic) 4 one other
+
+abbrev pub Fits : List ConfigOption → List ConfigOption → Type 0
+Fits = Differs (kind_number Magic) 4
+
 -- Whether they pass: each one's list is what the other acknowledged last, may be asked for and was allowed against the
 -- other's list of that moment, and the two lists fit.
-abbrev pub passes : Terms → Terms → Bool
-passes a b =
+abbrev pub passes : Settings → Terms → Terms → Bool
+passes s a b =
     same_list a.own b.peer && same_list b.own a.peer
-    && is_sendable a.own && is_sendable b.own
-    && is_allowed b.against a.own && is_allowed a.against b.own
-    && is_compatible a.own b.own
+    && is_sendable (lcp_rules s.a) a.own && is_sendable (lcp_rules s.b) b.own
+    && is_allowed (lcp_rules s.b) b.against a.own && is_allowed (lcp_rules s.a) a.against b.own
+    && fits a.own b.own
 
 -- whether two Opened ends agree
-abbrev pub agrees : Duet → Bool
-agrees d = passes (terms_at d.a) (terms_at d.b)
+abbrev pub agrees : Settings → Duet → Bool
+agrees s d = passes s (terms_at d.a) (terms_at d.b)
 
 -- None where not both are Opened
-abbrev pub agree_terms : Option Terms → Option Terms → Option Bool
-agree_terms (Some a) (Some b) = Some (passes a b)
-agree_terms (Some a) None = None
-agree_terms None b = None
+abbrev pub agree_terms : Settings → Option Terms → Option Terms → Option Bool
+agree_terms s (Some a) (Some b) = Some (passes s a b)
+agree_terms s (Some a) None = None
+agree_terms s None b = None
 
-abbrev pub agree_of : Duet → Option Bool
-agree_of d = agree_terms (terms_of d.a) (terms_of d.b)
+abbrev pub agree_of : Settings → Duet → Option Bool
+agree_of s d = agree_terms s (terms_of d.a) (terms_of d.b)
 
 -- whether the two ends of a protocol on a link agree: None too where there is none
-abbrev pub agree_at : ℕ → Proto → Duet → Option Bool
-agree_at link proto d = option_and_then agree_of (duet_at link proto d)
+abbrev pub agree_at : Settings → ℕ → Proto → Duet → Option Bool
+agree_at s link proto d = option_and_then (agree_of s) (duet_at link proto d)
 
 -- both automata are Opened
 pub record AreOpened (d : Duet) : Type 0 where
@@ -75,13 +84,15 @@ pub record AreOpenedAt (link : ℕ) (proto : Proto) (d : Duet) : Type 0 where
   pub opened : AreOpened duet
 
 -- two Opened ends agree
-abbrev pub AgreesIfOpened : Duet → Type 0
-AgreesIfOpened d = AreOpened d → Agree Sendable Sendable Allows Allows Compatible d
+abbrev pub AgreesIfOpened : Settings → Duet → Type 0
+AgreesIfOpened s d =
+    AreOpened d
+    → Agree (Sendable (lcp_rules s.a)) (Sendable (lcp_rules s.b)) (Allows (lcp_rules s.a)) (Allows (lcp_rules s.b)) Fits d
 
 -- In a state two Opened ends of a protocol agree on each link, and no report of it says that they don't.
-pub record AgreesAt (link : ℕ) (proto : Proto) (d : Duet) : Type 0 where
-  pub agree : IfSome (duet_at link proto d) AgreesIfOpened
-  pub told : agree_at link proto d ≢ Some false
+pub record AgreesAt (s : Settings) (link : ℕ) (proto : Proto) (d : Duet) : Type 0 where
+  pub agree : IfSome (duet_at link proto d) (AgreesIfOpened s)
+  pub told : agree_at s link proto d ≢ Some false
 
-abbrev pub AgreesEverywhere : Duet → Type 0
-AgreesEverywhere d = (link : ℕ) (proto : Proto) → AgreesAt link proto d
+abbrev pub AgreesEverywhere : Settings → Duet → Type 0
+AgreesEverywhere s d = (link : ℕ) (proto : Proto) → AgreesAt s link proto d

@@ -1,8 +1,5 @@
 pub mod Agreement
 pub mod Frame
-pub mod Lcp
-pub mod LcpLawful
-pub mod LcpSettings
 pub mod Ledger
 pub mod Outstanding
 pub mod Party

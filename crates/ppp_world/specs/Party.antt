@@ -13,20 +13,16 @@ use Rattle.ppp_frame.specs.Verdict.{whole_headers}
 use Rattle.ppp_packet.specs.Proto.{proto_number}
 use Rattle.ppp_packet.specs.declared.proto.Proto.TheVariants.{Lcp}
 use Rattle.ppp_world.specs.Frame.{Frame, packet_in}
-use Rattle.ppp_world.specs.Lcp.{lcp_table}
-use Rattle.ppp_world.specs.LcpSettings.{LcpSettings}
+use Rattle.ppp_lcp.specs.LcpSettings.{LcpSettings, settings_seen}
 use Rattle.ppp_world.specs.Ledger.{Ledger, IsLedgerOf, end_of, heard, ledger_begun, noted_all, packets_in, stamped}
-use Rattle.ppp_world.specs.Settings.{setup_of}
+use Rattle.ppp_world.specs.Settings.{lcp_table, setup_of}
 use Rattle.ppp_world.specs.declared.frame.TheConstants.{MOST_FRAME}
-use Rattle.ppp_world.specs.declared.lcp.LcpTable.{LcpTable}
+use Rattle.ppp_lcp.specs.declared.lcp_table.LcpTable.{LcpTable}
 
 pub record Party : Type 0 where
   pub settings : LcpSettings
   pub auto : Auto
   pub ledger : Ledger
-
-abbrev pub settings_seen : LcpTable → LcpSettings
-settings_seen t = record { mru = t.mru; magic = t.magic }
 
 -- a party as its parts say
 abbrev pub party_with : LcpTable → Auto → Ledger → Party

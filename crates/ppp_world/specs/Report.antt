@@ -10,7 +10,6 @@ use Rattle.ppp_auto.specs.Auto.{Auto, mine_of, peer_of}
 use Rattle.ppp_auto.specs.declared.auto_state.AutoState.{AutoState}
 use Rattle.ppp_auto.specs.AutoState.{state_name}
 use Rattle.ppp_duet.specs.Duet.{Duet}
-use Rattle.ppp_world.specs.Agreement.{agree_at}
 use Rattle.ppp_world.specs.declared.step.TheConstants.{ONLY_LINK}
 
 -- a granted list in hexadecimal digits
@@ -33,16 +32,16 @@ unfoldable pub states_text : AutoState → AutoState → List ℕ
 states_text a b = state_name a ++ codes " " ++ state_name b
 
 -- what is granted to each end and to its peer, and whether they agree
-unfoldable pub terms_text : Duet → List ℕ
-terms_text d =
-    lists_text d.a.auto ++ codes " " ++ lists_text d.b.auto ++ codes " agree " ++ agree_text (agree_at ONLY_LINK Lcp d)
+unfoldable pub terms_text : Duet → Option Bool → List ℕ
+terms_text d agree =
+    lists_text d.a.auto ++ codes " " ++ lists_text d.b.auto ++ codes " agree " ++ agree_text agree
 
 -- a link's LCP
-abbrev pub lcp_line : Duet → List ℕ
-lcp_line d =
+abbrev pub lcp_line : Duet → Option Bool → List ℕ
+lcp_line d agree =
     decimal ONLY_LINK ++ codes " " ++ proto_name Lcp ++ codes " "
-    ++ states_text d.a.auto.state d.b.auto.state ++ codes " " ++ terms_text d ++ codes "\n"
+    ++ states_text d.a.auto.state d.b.auto.state ++ codes " " ++ terms_text d agree ++ codes "\n"
 
 -- the block of a `show` at a step
-abbrev pub show_block : ℕ → Duet → List ℕ
-show_block k d = codes "show " ++ decimal k ++ codes "\n" ++ lcp_line d
+abbrev pub show_block : ℕ → Duet → Option Bool → List ℕ
+show_block k d agree = codes "show " ++ decimal k ++ codes "\n" ++ lcp_line d agree

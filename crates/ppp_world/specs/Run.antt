@@ -3,7 +3,8 @@ use Rattle.std.specs.Prelude.{ℕ, zero, suc, ◌+◌, List, [], ◌∷◌, ◌+
 use Rattle.ppp_auto.specs.Outbox.{Entry}
 use Rattle.ppp_duet.specs.Duet.{Duet, start}
 use Rattle.ppp_script.specs.declared.event.Event.{Event}
-use Rattle.ppp_world.specs.Agreement.{AgreesEverywhere}
+use Rattle.ppp_packet.specs.declared.proto.Proto.TheVariants.{Lcp}
+use Rattle.ppp_world.specs.Agreement.{AgreesEverywhere, agree_at}
 use Rattle.ppp_world.specs.Outstanding.{outstanding_in}
 use Rattle.ppp_world.specs.Report.{show_block}
 use Rattle.ppp_world.specs.Settings.{Settings, setup_of}
@@ -11,6 +12,7 @@ use Rattle.ppp_world.specs.Step.{step_of, settling, next_delivery, entries_made,
 use Rattle.ppp_world.specs.declared.outstanding.Outstanding.{Outstanding}
 use Rattle.ppp_world.specs.declared.refusal.Refusal.{Refusal}
 use Rattle.ppp_world.specs.declared.step.Step.{Step}
+use Rattle.ppp_world.specs.declared.step.TheConstants.{ONLY_LINK}
 use Rattle.ppp_world.specs.declared.step.Step.TheVariants.{Happens, Reports, Rests}
 
 -- a step that was done: its number, what it was, the entries that it made, and the state after it
@@ -67,17 +69,17 @@ abbrev pub run_of : Settings → List Event → List Moment
 run_of s events = run_from s (place_begun s) events
 
 -- what is reported of a step
-abbrev pub shown_at : ℕ → Duet → Step → List ℕ
-shown_at k d Reports = show_block k d
-shown_at k d (Happens at what) = []
-shown_at k d Rests = []
+abbrev pub shown_at : Settings → ℕ → Duet → Step → List ℕ
+shown_at s k d Reports = show_block k d (agree_at s ONLY_LINK Lcp d)
+shown_at s k d (Happens at what) = []
+shown_at s k d Rests = []
 
-abbrev pub shown : Moment → List ℕ
-shown m = shown_at m.number m.after m.step
+abbrev pub shown : Settings → Moment → List ℕ
+shown s m = shown_at s m.number m.after m.step
 
-abbrev pub report : List Moment → List ℕ
-report [] = []
-report (m ∷ ms) = shown m ++ report ms
+abbrev pub report : Settings → List Moment → List ℕ
+report s [] = []
+report s (m ∷ ms) = shown s m ++ report s ms
 
 -- the first step of a run that is refused, if there is one, and the steps before it
 abbrev pub refusal_with : Moment → Option Outstanding → Option Refusal → Option Refusal
@@ -98,13 +100,13 @@ before_refusal (m ∷ ms) = kept_with m (outstanding_in m.after) (before_refusal
 
 -- what a replay reports: the steps before the first that is refused
 abbrev pub report_of : Settings → List Event → List ℕ
-report_of s events = report (before_refusal (run_of s events))
+report_of s events = report s (before_refusal (run_of s events))
 
 -- two Opened ends agree after every step of a run
-abbrev pub AgreesThroughout : List Moment → Type 0
-AgreesThroughout ms = All (λ m. AgreesEverywhere m.after) ms
+abbrev pub AgreesThroughout : Settings → List Moment → Type 0
+AgreesThroughout s ms = All (λ m. AgreesEverywhere s m.after) ms
 
 -- and so they do from the start of the run of these events up to the first step that is refused
 pub record AgreesInRun (s : Settings) (events : List Event) : Type 0 where
-  pub first : AgreesEverywhere (place_begun s).duet
-  pub each : AgreesThroughout (before_refusal (run_of s events))
+  pub first : AgreesEverywhere s (place_begun s).duet
+  pub each : AgreesThroughout s (before_refusal (run_of s events))

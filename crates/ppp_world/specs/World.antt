@@ -54,7 +54,7 @@ written_by w m None = record w {
   duet = m.after;
   line = line_of m.after;
   steps = m.number;
-  report = w.report ++ shown m;
+  report = w.report ++ shown w.settings m;
   halt = None;
 }
 written_by w m (Some fault) = record w {

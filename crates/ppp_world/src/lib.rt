@@ -9,7 +9,6 @@
 mod agreement;
 mod frame;
 pub mod laws;
-mod lcp;
 mod ledger;
 mod outstanding;
 mod party;
@@ -17,6 +16,7 @@ mod queue;
 mod refusal;
 mod replayed;
 mod report;
+mod settings;
 mod step;
 mod two_ends;
 mod world;
@@ -28,8 +28,3 @@ pub use refusal::Refusal;
 pub use replayed::{Replayed, replay};
 pub use world::World;
 pub use world_fault::WorldFault;
-
-#[cfg(test)]
-mod automaton_tests;
-#[cfg(test)]
-mod lcp_tests;

@@ -8,16 +8,16 @@ ghost use Rattle.ppp_duet.specs.Duet.{mark_of};
 ghost use Rattle.ppp_frame.specs.declared.frame_buf.TheConstants.{MOST_INFO};
 ghost use Rattle.ppp_world.specs.Frame.{kind_of, marked, packet_held, HoldsPacket, IsSent};
 ghost use Rattle.ppp_world.specs.Ledger.{noted, noted_all, packets_in, posted, queued, stamped, AllHold};
-ghost use Rattle.ppp_world.specs.LcpSettings.{default_lcp};
+ghost use Rattle.ppp_lcp.specs.LcpSettings.{settings_seen};
 ghost use Rattle.ppp_world.specs.Party.{lends_lcp, party_begun, party_commanded, party_taking, sent_commanded, sent_taking, IsReady, Lends};
 ghost use Rattle.ppp_world.specs.Queue.{under_way, IsQueue};
 
 use crate::frame::{Frame, MOST_FRAME, PacketKind};
-use crate::lcp::{DEFAULT_MRU, LcpTable};
 use crate::ledger::{FIRST_ID, Ledger};
 use crate::queue::Queue;
 use ppp_auto::{AutoEvent, AutoState, Automaton, EntryRef, Memory, Outbox};
 use ppp_frame::Deframer;
+use ppp_lcp::LcpTable;
 use ppp_packet::{OptList, Options, Proto};
 use std::alloc::Global;
 use std::marker::Model;
@@ -42,13 +42,13 @@ impl Model for Party {
 }
 
 impl Party {
-    /// An end as it begins, with the default settings.
-    pub(crate) fn new(alloc: Global) -> Result<Party, Memory>
-        ensures { IfOk result (λ p. p ≡ party_begun default_lcp) }
+    /// An end as it begins, with this table.
+    pub(crate) fn new(alloc: Global, table: LcpTable) -> Result<Party, Memory>
+        ensures { IfOk result (λ p. p ≡ party_begun (settings_seen table)) }
     {
         Ok(Party {
             deframer: Deframer::new(alloc, MOST_FRAME)?,
-            automaton: Automaton::new(LcpTable::new(DEFAULT_MRU, true), FIRST_ID),
+            automaton: Automaton::new(table, FIRST_ID),
             ledger: Ledger::new(alloc),
         })
     }

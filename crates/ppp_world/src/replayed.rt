@@ -4,12 +4,14 @@ ghost use Rattle.std.specs.Prelude.{◌≡◌, ◌+◌, ◌≤◌, None, IsSome,
 ghost use Rattle.ppp_script.specs.declared.script.TheConstants.{MOST_STEPS};
 ghost use Rattle.ppp_world.specs.Refusal.{refusal_in};
 ghost use Rattle.ppp_world.specs.Run.{refusal, report, report_of, run_of, AgreesInRun};
-ghost use Rattle.ppp_world.specs.Settings.{default_settings};
+ghost use Rattle.ppp_conf.specs.Config.{seen};
+ghost use Rattle.ppp_world.specs.Settings.{settings_in};
 
 use crate::refusal::Refusal;
 use crate::world::World;
 use crate::world_fault::WorldFault;
 use ppp_auto::Memory;
+use ppp_conf::Config;
 use ppp_script::{Event, Script};
 use std::alloc::Global;
 
@@ -22,16 +24,17 @@ pub struct Replayed {
     pub refused: Option<Refusal>,
 }
 
-/// Replays a script, up to the first step that is refused. In every state of its run two Opened ends agree, on each link
-/// and in each protocol.
-pub fn replay(alloc: Global, script: &Script<Event>) -> Result<Replayed, Memory>
-    ensures report { IfOk result (λ r. r.report.items ≡ report_of default_settings script.now) }
-    ensures refused { IfOk result (λ r. r.refused ≡ refusal (run_of default_settings script.now)) }
-    ensures whole { IfOk result
-        (λ r. r.refused ≡ None → r.report.items ≡ report (run_of default_settings script.now)) }
-    ensures agreement { AgreesInRun default_settings script.now }
+/// Replays a script with these settings, up to the first step that is refused. In every state of its run two Opened ends
+/// agree, on each link and in each protocol.
+pub fn replay(alloc: Global, config: &Config, script: &Script<Event>) -> Result<Replayed, Memory>
+    ensures report { IfOk result (λ r. r.report.items ≡ report_of (settings_in (seen config.now)) script.now) }
+    ensures refused { IfOk result
+        (λ r. r.refused ≡ refusal (run_of (settings_in (seen config.now)) script.now)) }
+    ensures whole { IfOk result (λ r. r.refused ≡ None → r.report.items
+        ≡ report (settings_in (seen config.now)) (run_of (settings_in (seen config.now)) script.now)) }
+    ensures agreement { AgreesInRun (settings_in (seen config.now)) script.now }
 {
-    let mut world = World::new(alloc)?;
+    let mut world = World::new(alloc, config)?;
     for i in 0..script.count() {
         match world.step(script.at(i)) {
             Ok(()) => {}

@@ -1,10 +1,11 @@
 //! The blocks of a report.
 
-ghost use Rattle.std.specs.Prelude.{◌≡◌, ◌<◌, ◌++◌, ◌∷◌, [], OnOk, Some, option_map, slice_index};
+ghost use Rattle.std.specs.Prelude.{◌≡◌, ◌≢◌, ◌<◌, ◌++◌, ◌∷◌, [], false, OnOk, Some, option_map, slice_index};
 ghost use Rattle.std.specs.String.{string_bytes};
 ghost use Rattle.hex.specs.Hex.{encode_lower, lower_digits};
+ghost use Rattle.ppp_world.specs.Agreement.{agree_of};
 ghost use Rattle.ppp_world.specs.Report.{agree_text, lcp_line, list_text, lists_text, show_block, states_text, terms_text};
-ghost use Rattle.ppp_world.specs.TwoEnds.{duet_seen};
+ghost use Rattle.ppp_world.specs.TwoEnds.{duet_seen, settings_of};
 
 use crate::agreement::agree;
 use crate::party::Party;
@@ -16,10 +17,14 @@ use std::fmt;
 
 /// Writes the block of a `show` at a step.
 pub(crate) fn write_show(report: &mut String, number: u32, ends: &TwoEnds) -> Result<(), Memory>
-    ensures { OnOk result (string_bytes report.new
-        ≡ string_bytes report.old ++ show_block number (duet_seen ends.now)) }
+    requires { agree_of (settings_of ends.now) (duet_seen ends.now) ≢ Some false }
+    ensures { OnOk result (string_bytes report.new ≡ string_bytes report.old
+        ++ show_block number (duet_seen ends.now) (agree_of (settings_of ends.now) (duet_seen ends.now))) }
 {
-    let line = Line { ends };
+    let line = Line {
+        ends,
+        agree: agree(ends),
+    };
     write!(report, "show {number}\n{line}").map_err(|_| Memory)
 }
 
@@ -27,15 +32,19 @@ pub(crate) fn write_show(report: &mut String, number: u32, ends: &TwoEnds) -> Re
 #[derive(Clone, Copy)]
 struct Line<'a> {
     ends: &'a TwoEnds,
+    agree: Option<bool>,
 }
 
 impl fmt::Display for Line<'_> {
-    ghost output = { λ line. Some (lcp_line (duet_seen line.ends.now)) };
+    ghost output = { λ line. Some (lcp_line (duet_seen line.ends.now) line.agree) };
 
     fn fmt<W: fmt::Write>(&self, f: &mut fmt::Formatter<W>) -> fmt::Result {
         let proto = Proto::Lcp;
         let states = States { ends: self.ends };
-        let terms = Terms { ends: self.ends };
+        let terms = Terms {
+            ends: self.ends,
+            agree: self.agree,
+        };
         write!(f, "{ONLY_LINK} {proto} {states} {terms}\n")
     }
 }
@@ -44,10 +53,11 @@ impl fmt::Display for Line<'_> {
 #[derive(Clone, Copy)]
 struct Terms<'a> {
     ends: &'a TwoEnds,
+    agree: Option<bool>,
 }
 
 impl fmt::Display for Terms<'_> {
-    ghost output = { λ t. Some (terms_text (duet_seen t.ends.now)) };
+    ghost output = { λ t. Some (terms_text (duet_seen t.ends.now) t.agree) };
 
     #[tactic(auto, unfolding(crate::specs::Report::terms_text))]
     fn fmt<W: fmt::Write>(&self, f: &mut fmt::Formatter<W>) -> fmt::Result {
@@ -57,7 +67,7 @@ impl fmt::Display for Terms<'_> {
         let b = Lists {
             party: self.ends.b(),
         };
-        let agree = agree_text(agree(self.ends));
+        let agree = agree_text(self.agree);
         write!(f, "{a} {b} agree {agree}")
     }
 }

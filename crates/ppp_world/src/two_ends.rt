@@ -6,17 +6,17 @@ ghost use Rattle.ppp_duet.specs.Span.{answers, least, requests};
 ghost use Rattle.ppp_world.specs.Outstanding.{oldest_of, outstanding_at, outstanding_of};
 ghost use Rattle.ppp_world.specs.Party.{end_seen, IsKept};
 ghost use Rattle.ppp_world.specs.Queue.{under_way, IsQueue};
-ghost use Rattle.ppp_world.specs.Settings.{default_settings};
+ghost use Rattle.ppp_lcp.specs.LcpSettings.{settings_seen};
 ghost use Rattle.ppp_world.specs.Step.{moved, next_delivery, word_of};
 ghost use Rattle.ppp_world.specs.TwoEnds.{acted, duet_seen, ends_begun, settings_of, AreKept, AreQueues};
 ghost use Rattle.ppp_world.specs.declared.queue.TheConstants.{ROOM};
 
-use crate::lcp::LcpTable;
 use crate::outstanding::Outstanding;
 use crate::party::Party;
 use crate::queue::Queue;
 use crate::step::{Happening, ONLY_LINK, Step};
 use ppp_auto::{Memory, OptionTable, Outbox};
+use ppp_lcp::LcpTable;
 use ppp_script::End;
 use std::alloc::Global;
 use std::marker::Model;
@@ -46,13 +46,13 @@ impl Model for TwoEnds {
 }
 
 impl TwoEnds {
-    /// Both ends as they begin, with the default settings and nothing under way.
-    pub(crate) fn new(alloc: Global) -> Result<TwoEnds, Memory>
-        ensures { IfOk result (λ d. d ≡ ends_begun default_settings) }
+    /// Both ends as they begin, with these tables and nothing under way.
+    pub(crate) fn new(alloc: Global, a: LcpTable, b: LcpTable) -> Result<TwoEnds, Memory>
+        ensures { IfOk result (λ d. d ≡ ends_begun (record { a = settings_seen a; b = settings_seen b })) }
     {
         Ok(TwoEnds {
-            a: Party::new(alloc)?,
-            b: Party::new(alloc)?,
+            a: Party::new(alloc, a)?,
+            b: Party::new(alloc, b)?,
             to_a: Queue::new(alloc)?,
             to_b: Queue::new(alloc)?,
             out: Outbox::new(alloc)?,

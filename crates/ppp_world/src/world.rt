@@ -5,10 +5,11 @@ ghost use Rattle.std.specs.String.{string_bytes};
 ghost use Rattle.ppp_duet.specs.Reached.{OldestFirst};
 ghost use Rattle.ppp_script.specs.Event.{steps_in};
 ghost use Rattle.ppp_script.specs.declared.script.TheConstants.{MOST_STEPS};
-ghost use Rattle.ppp_world.specs.Agreement.{agree_at, AreOpenedAt};
+ghost use Rattle.ppp_world.specs.Agreement.{agree_at, agree_of, AreOpenedAt};
 ghost use Rattle.ppp_world.specs.Outstanding.{outstanding_at, outstanding_in};
 ghost use Rattle.ppp_world.specs.Run.{shown_at};
-ghost use Rattle.ppp_world.specs.Settings.{default_settings};
+ghost use Rattle.ppp_conf.specs.Config.{seen};
+ghost use Rattle.ppp_world.specs.Settings.{settings_in};
 ghost use Rattle.ppp_world.specs.Step.{moved};
 ghost use Rattle.ppp_world.specs.TwoEnds.{duet_seen, line_of, settings_of, AreKept, AreQueues};
 ghost use Rattle.ppp_world.specs.World.{answer_of, does_step, fault_in, settled, world_after, world_begun, world_of, AreLed, Makes, UnlessMemory};
@@ -16,16 +17,18 @@ ghost use Rattle.ppp_world.specs.World.{answer_of, does_step, fault_in, settled,
 use crate::agreement::agree;
 use crate::outstanding::Outstanding;
 use crate::report::write_show;
+use crate::settings::lcp_table;
 use crate::step::{ONLY_LINK, Step, settling};
 use crate::two_ends::TwoEnds;
 use crate::world_fault::WorldFault;
 use ppp_auto::Memory;
+use ppp_conf::Config;
 use ppp_packet::Proto;
 use ppp_script::{End, Event};
 use std::alloc::Global;
 use std::marker::Model;
 
-/// Two ends of one link with LCP alone, at its default settings, and the queues between them: the state that the events
+/// Two ends of one link with LCP alone, and the queues between them: the state that the events
 /// of a script lead to, and the report of it. The k-th step takes the word 2 k at end a, and 2 k + 1 at end b.
 #[derive(Drop)]
 pub struct World {
@@ -48,11 +51,13 @@ impl Model for World {
 }
 
 impl World {
-    /// Both ends as they begin, with the default settings, nothing under way and an empty report.
-    pub fn new(alloc: Global) -> Result<World, Memory>
-        ensures { IfOk result (λ world. world ≡ world_begun default_settings) }
+    /// Both ends as they begin, with what their settings ask for of LCP, nothing under way and an empty report.
+    pub fn new(alloc: Global, config: &Config) -> Result<World, Memory>
+        ensures { IfOk result (λ world. world ≡ world_begun (settings_in (seen config.now))) }
     {
-        let ends = TwoEnds::new(alloc)?;
+        let a = lcp_table(&config.a, ONLY_LINK);
+        let b = lcp_table(&config.b, ONLY_LINK);
+        let ends = TwoEnds::new(alloc, a, b)?;
         Ok(World {
             ends,
             steps: 0,
@@ -86,7 +91,7 @@ impl World {
     /// or in a protocol that isn't there. It is never false.
     pub fn agree(&self, link: u8, proto: Proto) -> Option<bool>
         requires { self.now.halt ≡ None }
-        ensures value { result ≡ agree_at link proto self.now.duet }
+        ensures value { result ≡ agree_at self.now.settings link proto self.now.duet }
         ensures none { IsNone result ↔ ¬ (AreOpenedAt link proto self.now.duet) }
         ensures never_false { result ≢ Some false }
     {
@@ -240,8 +245,9 @@ fn advance(ends: &mut TwoEnds, number: u32, step: Step) -> Result<(), Memory>
 
 /// Writes what is reported after the step of that number.
 fn show(report: &mut String, number: u32, step: Step, ends: &TwoEnds) -> Result<(), Memory>
-    ensures { OnOk result (string_bytes report.new
-        ≡ string_bytes report.old ++ shown_at number (duet_seen ends.now) step) }
+    requires { agree_of (settings_of ends.now) (duet_seen ends.now) ≢ Some false }
+    ensures { OnOk result (string_bytes report.new ≡ string_bytes report.old
+        ++ shown_at (settings_of ends.now) number (duet_seen ends.now) step) }
 {
     match step {
         Step::Reports => write_show(report, number, ends),

@@ -1,6 +1,9 @@
 use Rattle.std.proofs.Common.{◌≡◌, ◌∙◌, sym, arith}
 use Rattle.ppp_world.proofs.WorldLemmas.{done_as, led_on, oldest_on, refused_as, rests_as, rests_on, stays_on}
 use Rattle.ppp_world.proofs.StepLemmas.{still_a, still_b}
+use Rattle.ppp_world.specs.TwoEnds.{duet_seen, settings_of}
+use Rattle.ppp_world.proofs.AgreementLemmas.{never_disagrees}
+use Rattle.ppp_world.proofs.RunLemmas.{agreed}
 use Rattle.ppp_world.proofs.world.go.Goals as goal
 
 pub wider_since-requires-clause-oldest : goal.wider_since-requires-clause-oldest
@@ -34,3 +37,10 @@ returns-in-Rests-clause-done c =
 
 pub returns-in-Rests-clause-led : goal.returns-in-Rests-clause-led
 returns-in-Rests-clause-led c = rests_on c.args.ends.now c.args.steps.now c.requires.led
+
+pub show-requires : goal.show-requires
+show-requires c =
+    let led = led_on c.args.ends.now c.advance.new.ends c.args.steps.now c.args.step c.requires.led c.advance.ensures.settings c.in-Ok.ensures.kept c.advance.ensures.queues c.in-Ok.ensures.done (sym c.wider_since.ensures ∙ c.in_default-wider_since.is) in
+    let s = settings_of c.advance.new.ends in
+    let d = duet_seen c.advance.new.ends in
+    never_disagrees s d (agreed s led.led.ranged d led.led.reached)

@@ -1,4 +1,4 @@
-use Rattle.ppp_world.specs.Party.{settings_seen}
+use Rattle.ppp_lcp.specs.LcpSettings.{settings_seen}
 use Rattle.ppp_world.proofs.LedgerLemmas.{commanded_holds}
 use Rattle.ppp_world.proofs.party.Party.command.Goals as goal
 

@@ -1,5 +1,5 @@
 use Rattle.ppp_world.specs.Frame.{marked}
-use Rattle.ppp_world.specs.Party.{settings_seen}
+use Rattle.ppp_lcp.specs.LcpSettings.{settings_seen}
 use Rattle.ppp_world.proofs.FrameLemmas.{lent_packet}
 use Rattle.ppp_world.proofs.LedgerLemmas.{taken_holds}
 use Rattle.ppp_world.proofs.party.Party.take.Goals as goal

@@ -1,6 +1,0 @@
-use Rattle.ppp_world.proofs.LcpLemmas.{ok-with_room}
-use Rattle.ppp_world.proofs.lcp.put.Goals as goal
-
-pub unwrap-requires : goal.unwrap-requires
-unwrap-requires c =
-    ok-with_room c.push.result c.args.list.now c.args.kind c.args.body.now c.requires.room c.push.ensures.no_room
