@@ -172,9 +172,10 @@ fn hostile_streams_end_at_their_flags(rt: HostRuntime) -> Result<(), Fail> {
         check_frame(&rt, &deframer, protocol, info);
     }
     for (_, _, _, octets) in &FRAMES {
-        for cut in 2..octets.len().saturating_sub(1) {
+        for cut in 1..octets.len() {
+            let lacks_the_last_flag = cut + 1 == octets.len();
             assert!(rt; deframer.feed(&octets[..cut]).got == Got::More);
-            assert!(rt; deframer.feed(b"\x7e").got != Got::Frame);
+            assert!(rt; (deframer.feed(b"\x7e").got == Got::Frame) == lacks_the_last_flag);
             assert!(rt; answer(&rt, &mut deframer, other, 7) == Got::Frame);
         }
     }
