@@ -22,7 +22,7 @@ use Rattle.ppp_conf.specs.SocketText.{is_socket, socket_of}
 use Rattle.ppp_conf.specs.Unknown.{knows, least_unknown}
 use Rattle.ppp_conf.proofs.EndConfigLemmas.{end_of-read}
 use Rattle.ppp_conf.proofs.FieldsLemmas.{or_else, found, get-all, known-all, none_unknown, depth-all, value_depth}
-use Rattle.ppp_conf.proofs.PrintedTexts.{dotted_of-text, given_of-text, ifid_of-text, ifid_of-none, disc_of-text, with_names-items, protocol_items-flat}
+use Rattle.ppp_conf.proofs.TextLemmas.{dotted_of-text, given_of-text, ifid_of-text, ifid_of-none, disc_of-text, with_names-items, protocol_items-flat}
 
 pub back_whole : (given : Given) (name : List ℕ) (least most default n : ℕ) → get_member name given.members ≡ Some (integer (pos n)) → (least ≤ n) × (n ≤ most) →
     key given name (whole least most) default ≡ Ok n

@@ -12,7 +12,7 @@ disc_seen disc = (disc.class, take disc.size disc.address)
 abbrev pub disc_by : ℕ → List ℕ → Option (ℕ × List ℕ)
 disc_by class digits =
     if is_good_disc class (length digits / 2) then
-      option_map (λ address. (class, address)) (hex_octets (length digits / 2) digits)
+    option_map (λ address. (class, address)) (hex_octets (length digits / 2) digits)
     else None
 
 -- digits begin with `0` (48), and `:` is 58

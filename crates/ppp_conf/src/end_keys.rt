@@ -13,7 +13,10 @@ use crate::rules::broken_rule;
 
 /// Reads the keys of an end with this number of links, in table order: each with its form, its range and its default.
 /// A refusal of a rule is held back, since the keys of both ends come before it.
-pub(crate) fn read_end(keys: &Keys<'_>, links: u8) -> Result<Result<EndConfig, ConfFault>, ConfFault>
+pub(crate) fn read_end(
+    keys: &Keys<'_>,
+    links: u8,
+) -> Result<Result<EndConfig, ConfFault>, ConfFault>
     requires least { 1 ≤ links }
     requires most { links ≤ 16 }
     ensures ok { IfOk result (HasRead (Reads IsEnd) (end_of links (given keys.now.prefix.now keys.now.table))) }

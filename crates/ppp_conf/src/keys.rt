@@ -69,7 +69,13 @@ impl<'t> Keys<'t> {
     }
 
     /// A whole number of 8 bits within these bounds.
-    pub(crate) fn octet(&self, name: &'static str, least: u8, most: u8, default: u8) -> Result<u8, ConfFault>
+    pub(crate) fn octet(
+        &self,
+        name: &'static str,
+        least: u8,
+        most: u8,
+        default: u8,
+    ) -> Result<u8, ConfFault>
         requires low { least ≤ default }
         requires high { default ≤ most }
         ensures ok { IfOk result (λ n.
@@ -86,7 +92,13 @@ impl<'t> Keys<'t> {
     }
 
     /// A whole number of 16 bits within these bounds.
-    pub(crate) fn small(&self, name: &'static str, least: u16, most: u16, default: u16) -> Result<u16, ConfFault>
+    pub(crate) fn small(
+        &self,
+        name: &'static str,
+        least: u16,
+        most: u16,
+        default: u16,
+    ) -> Result<u16, ConfFault>
         requires low { least ≤ default }
         requires high { default ≤ most }
         ensures ok { IfOk result (λ n.
@@ -103,7 +115,13 @@ impl<'t> Keys<'t> {
     }
 
     /// A whole number of 32 bits within these bounds.
-    pub(crate) fn large(&self, name: &'static str, least: u32, most: u32, default: u32) -> Result<u32, ConfFault>
+    pub(crate) fn large(
+        &self,
+        name: &'static str,
+        least: u32,
+        most: u32,
+        default: u32,
+    ) -> Result<u32, ConfFault>
         requires low { least ≤ default }
         requires high { default ≤ most }
         ensures ok { IfOk result (λ n.
@@ -120,7 +138,12 @@ impl<'t> Keys<'t> {
     }
 
     /// A whole number of 16 bits within these bounds, that may be missing.
-    pub(crate) fn small_there(&self, name: &'static str, least: u16, most: u16) -> Result<Option<u16>, ConfFault>
+    pub(crate) fn small_there(
+        &self,
+        name: &'static str,
+        least: u16,
+        most: u16,
+    ) -> Result<Option<u16>, ConfFault>
         ensures ok { IfOk result (λ n. key (given self.now.prefix.now self.now.table) name.now
             (λ value. there (whole least most value)) None ≡ Ok n) }
         ensures err { IfErr result (IsRefusal (key (given self.now.prefix.now self.now.table) name.now
@@ -134,7 +157,12 @@ impl<'t> Keys<'t> {
     }
 
     /// A whole number of 32 bits within these bounds, that may be missing.
-    pub(crate) fn large_there(&self, name: &'static str, least: u32, most: u32) -> Result<Option<u32>, ConfFault>
+    pub(crate) fn large_there(
+        &self,
+        name: &'static str,
+        least: u32,
+        most: u32,
+    ) -> Result<Option<u32>, ConfFault>
         ensures ok { IfOk result (λ n. key (given self.now.prefix.now self.now.table) name.now
             (λ value. there (whole least most value)) None ≡ Ok n) }
         ensures err { IfErr result (IsRefusal (key (given self.now.prefix.now self.now.table) name.now
@@ -148,7 +176,12 @@ impl<'t> Keys<'t> {
     }
 
     /// 0, or a whole number within these bounds; 0 where it isn't there.
-    pub(crate) fn zero_or(&self, name: &'static str, least: u16, most: u16) -> Result<u16, ConfFault>
+    pub(crate) fn zero_or(
+        &self,
+        name: &'static str,
+        least: u16,
+        most: u16,
+    ) -> Result<u16, ConfFault>
         ensures ok { IfOk result (λ n.
             key (given self.now.prefix.now self.now.table) name.now (zero_or least most) 0 ≡ Ok n) }
         ensures err { IfErr result (IsRefusal
@@ -258,7 +291,11 @@ impl<'t> Keys<'t> {
     }
 
     /// The text that names a socket.
-    pub(crate) fn socket(&self, name: &'static str, default: &'static str) -> Result<SocketText, ConfFault>
+    pub(crate) fn socket(
+        &self,
+        name: &'static str,
+        default: &'static str,
+    ) -> Result<SocketText, ConfFault>
         requires { is_socket default.now ≡ true }
         ensures ok { IfOk result (λ text. key (given self.now.prefix.now self.now.table) name.now
             (text_of socket_of) default.now ≡ Ok text) }

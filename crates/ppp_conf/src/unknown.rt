@@ -134,7 +134,11 @@ fn inside<'t>(top: &'t Table, name: &str) -> Option<&'t Table>
 }
 
 /// The least path of all keys that aren't known.
-pub(crate) fn unknown(alloc: Global, top: &Table, version: u8) -> Result<Option<KeyPath>, AllocError>
+pub(crate) fn unknown(
+    alloc: Global,
+    top: &Table,
+    version: u8,
+) -> Result<Option<KeyPath>, AllocError>
     ensures { IfOk result (λ path. path ≡ unknown_of version (table_view top.now)) }
 {
     let at_top = least_unknown(alloc, "", Some(top), Level::Top)?;

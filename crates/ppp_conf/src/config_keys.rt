@@ -1,4 +1,4 @@
-//! Settings, as they are read.
+//! The keys of settings, and what a text reads as.
 
 ghost use Rattle.std.specs.Prelude.{◌≡◌, ◌≤◌, [], Ok, IfOk, IfErr, OnOk};
 ghost use Rattle.toml.specs.View.{table_view};
@@ -18,8 +18,8 @@ use crate::unknown::unknown;
 use std::alloc::Global;
 use toml::Table;
 
-/// Reads settings, a TOML text.
-
+/// Reads settings, a TOML text. The first refusal is answered, in the order of the crate's first page; want of memory may
+/// be answered in the place of any.
 pub fn read_config(alloc: Global, text: &[u8]) -> Result<Config, ConfFault>
     ensures ok { IfOk result (HasRead IsConfig (config_of text.now)) }
     ensures err { IfErr result (IsRefusal (config_of text.now)) }

@@ -80,9 +80,9 @@ bytes_fit_8 n (suc (suc (suc (suc (suc (suc (suc (suc k)))))))) = lit< tt
 not_none : (text : List ℕ) → length text ≡ 16 → bytes_eq text (codes "none") ≡ false
 not_none text long =
     false_from_ne_true (bytes_eq text (codes "none")) (λ same.
-      let equal : text ≡ codes "none" = (bytes_eq-Decides text (codes "none")).0 same in
-      let four : length text ≡ 4 = ap length equal in
-      absurd (omega arith))
+    let equal : text ≡ codes "none" = (bytes_eq-Decides text (codes "none")).0 same in
+    let four : length text ≡ 4 = ap length equal in
+    absurd (omega arith))
 
 pub ifid_of-text : (n : ℕ) → n ≤ 18446744073709551615 → ifid_of (ifid_text (Some n)) ≡ Some (Some n)
 unfolding ifid_of
