@@ -14,7 +14,7 @@ is_lower_digit x = is_within 48 57 x || is_within 97 102 x
 unfoldable pub hex_octets : ℕ → List ℕ → Option (List ℕ)
 hex_octets size text = if list_all is_lower_digit text then result_ok (decode_sized text size) else None
 
--- an interface identifier: `none`, or the sixteen digits of a number (RFC 5072 section 4)
+-- an interface identifier: `none`, or the sixteen digits of a number (RFC 5072 section 4.1)
 unfoldable pub ifid_of : List ℕ → Option (Option ℕ)
 ifid_of text =
     if bytes_eq text (codes "none") then Some None

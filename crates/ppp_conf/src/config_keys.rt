@@ -4,7 +4,7 @@ ghost use Rattle.std.specs.Prelude.{◌≡◌, ◌≤◌, [], Ok, IfOk, IfErr, O
 ghost use Rattle.toml.specs.View.{table_view};
 ghost use Rattle.ppp_conf.specs.Config.{IsConfig, all_known, config_of, end_at, settings_of};
 ghost use Rattle.ppp_conf.specs.EndConfig.{IsEnd};
-ghost use Rattle.ppp_conf.specs.Keys.{given};
+ghost use Rattle.ppp_conf.specs.Keys.{keys_seen};
 ghost use Rattle.ppp_conf.specs.Refusal.{HasRead, Reads, IsRefusal};
 ghost use Rattle.ppp_conf.specs.Unknown.{unknown_of};
 
@@ -88,9 +88,9 @@ fn end_at(
     requires least { 1 ≤ links }
     requires most { links ≤ 16 }
     ensures ok { IfOk result (HasRead (Reads IsEnd)
-        (end_at links name.now prefix.now (given top.now.prefix.now top.now.table))) }
+        (end_at links name.now prefix.now (keys_seen top.now))) }
     ensures err { IfErr result (IsRefusal
-        (end_at links name.now prefix.now (given top.now.prefix.now top.now.table))) }
+        (end_at links name.now prefix.now (keys_seen top.now))) }
     ensures links { IfOk result (λ read. IfOk read (λ config. config.links ≡ links)) }
 {
     let table = top.table(name)?;

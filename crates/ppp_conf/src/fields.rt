@@ -11,7 +11,8 @@ use toml::{Table, Value};
 
 /// Puts a value at a key.
 pub(crate) fn put(alloc: Global, table: &mut Table, name: &str, value: Value) -> Result<(), Memory>
-    ensures { OnOk result (table_view table.new ≡ put_member name.now (view value) (table_view table.old)) }
+    ensures { OnOk result
+        (table_view table.new ≡ put_member name.now (view value) (table_view table.old)) }
 {
     let key = String::from_str(alloc, name)?;
     match table.insert(key, value) {

@@ -96,7 +96,8 @@ fn least_unknown(
     table: Option<&Table>,
     level: Level,
 ) -> Result<Option<KeyPath>, AllocError>
-    ensures { IfOk result (λ path. path ≡ least_unknown prefix.now (knows level) (members_in table.entry)) }
+    ensures { IfOk result (λ path.
+        path ≡ least_unknown prefix.now (knows level) (members_in table.entry)) }
 {
     let Some(table) = table else {
         return Ok(None);
