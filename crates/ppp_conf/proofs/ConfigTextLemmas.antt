@@ -1,8 +1,8 @@
 -- The printed table of settings reads as the settings.
-use Rattle.std.proofs.Common.{◌≡◌, ℕ, ◌≤◌, pos, Bool, true, List, [], codes, Option, Some, None, Result, Ok, refl, ap, ◌∙◌, arith, lit≤}
+use Rattle.std.proofs.Common.{◌≡◌, ℕ, ◌≤◌, pos, List, [], codes, Some, None, Ok, refl, ◌∙◌, arith, lit≤}
 use Rattle.std.specs.Prelude.{IsUtf8}
 use Rattle.toml.specs.Parse.{parse_document}
-use Rattle.toml.specs.Data.{Data, Members, no_members, get_member, integer, table, members_depth}
+use Rattle.toml.specs.Data.{Members, no_members, get_member, integer, table, members_depth}
 use Rattle.ppp_conf.specs.declared.config.Config.{Config}
 use Rattle.ppp_conf.specs.declared.unknown.Level.TheVariants.{Top, End}
 use Rattle.ppp_conf.specs.Config.{config_of, settings_of, config_seen}
