@@ -1,5 +1,5 @@
 -- Facts on settings: a document reads as what its parts read as, the first refusal deciding.
-use Rattle.std.proofs.Common.{◌≡◌, ℕ, List, [], Bool, true, false, Option, Some, None, Result, Ok, Err, codes, refl, sym, ◌∙◌}
+use Rattle.std.proofs.Common.{◌≡◌, ℕ, List, [], Bool, true, false, Some, None, Result, Ok, Err, codes, refl}
 use Rattle.std.specs.Prelude.{IsUtf8, IfErr}
 use Rattle.std.specs.Str.{is_utf8}
 use Rattle.std.proofs.lemmas.Str.{is_utf8-from_IsUtf8, IsUtf8-from_is_utf8}

@@ -1,11 +1,11 @@
 -- The printed table of settings reads as the settings.
-use Rattle.std.proofs.Common.{◌≡◌, ℕ, ◌≤◌, pos, Bool, true, List, [], codes, Option, Some, None, Result, Ok, refl, ap, ◌∙◌, arith, lit≤}
+use Rattle.std.proofs.Common.{◌≡◌, ℕ, ◌≤◌, pos, List, [], codes, Some, None, Ok, refl, ◌∙◌, arith, lit≤}
 use Rattle.std.specs.Prelude.{IsUtf8}
 use Rattle.toml.specs.Parse.{parse_document}
-use Rattle.toml.specs.Data.{Data, Members, no_members, get_member, integer, table, members_depth}
+use Rattle.toml.specs.Data.{Members, no_members, get_member, integer, table, members_depth}
 use Rattle.ppp_conf.specs.declared.config.Config.{Config}
 use Rattle.ppp_conf.specs.declared.unknown.Level.TheVariants.{Top, End}
-use Rattle.ppp_conf.specs.Config.{config_of, settings_of, seen}
+use Rattle.ppp_conf.specs.Config.{config_of, settings_of, config_seen}
 use Rattle.ppp_conf.specs.ConfigText.{top_fields, top_table}
 use Rattle.ppp_conf.specs.EndConfig.{EndSettings, end_of, end_seen}
 use Rattle.ppp_conf.specs.EndTable.{end_table}
@@ -28,27 +28,27 @@ composed top links of_a of_b a b version top_known got_links within got_a got_b 
     ∙ rw (got_a, got_b, is_a, is_b) refl
 
 -- settings that are printed read back
-pub settings_of-table : (c : Config) → settings_of (record { prefix = []; members = top_table (seen c) }) ≡ Ok (seen c)
+pub settings_of-table : (c : Config) → settings_of (record { prefix = []; members = top_table (config_seen c) }) ≡ Ok (config_seen c)
 settings_of-table c =
-    composed (record { prefix = []; members = top_table (seen c) }) c.links (end_table (end_seen c.a)) (end_table (end_seen c.b)) (end_seen c.a) (end_seen c.b)
-    (get-all (codes "version") (top_fields (seen c)) no_members)
-    (none_unknown (knows Top) [] (top_table (seen c)) (known-all (knows Top) (top_fields (seen c)) no_members refl refl))
-    (get-all (codes "links") (top_fields (seen c)) no_members) (rw (← c.a_links) c.a.links_within)
-    (get-all (codes "a") (top_fields (seen c)) no_members) (get-all (codes "b") (top_fields (seen c)) no_members)
+    composed (record { prefix = []; members = top_table (config_seen c) }) c.links (end_table (end_seen c.a)) (end_table (end_seen c.b)) (end_seen c.a) (end_seen c.b)
+    (get-all (codes "version") (top_fields (config_seen c)) no_members)
+    (none_unknown (knows Top) [] (top_table (config_seen c)) (known-all (knows Top) (top_fields (config_seen c)) no_members refl refl))
+    (get-all (codes "links") (top_fields (config_seen c)) no_members) (rw (← c.a_links) c.a.links_within)
+    (get-all (codes "a") (top_fields (config_seen c)) no_members) (get-all (codes "b") (top_fields (config_seen c)) no_members)
     (known-table (codes "a.") (end_seen c.a)) (known-table (codes "b.") (end_seen c.b))
     (end_of-table c.links (codes "a.") c.a c.a_links) (end_of-table c.links (codes "b.") c.b c.b_links)
 
 -- tables within tables, and arrays in these
-pub depth-top : (c : Config) → members_depth (top_table (seen c)) ≤ 2
+pub depth-top : (c : Config) → members_depth (top_table (config_seen c)) ≤ 2
 depth-top c =
     let a : members_depth (end_table (end_seen c.a)) ≤ 1 = depth-table (end_seen c.a) in
     let b : members_depth (end_table (end_seen c.b)) ≤ 1 = depth-table (end_seen c.b) in
-    depth-all 2 (top_fields (seen c)) no_members (lit≤ tt, (lit≤ tt, (omega arith, (omega arith, tt)))) (lit≤ tt)
+    depth-all 2 (top_fields (config_seen c)) no_members (lit≤ tt, (lit≤ tt, (omega arith, (omega arith, tt)))) (lit≤ tt)
 
 -- a text that reads as the printed table reads as the settings
-pub config_of-printed : (c : Config) (text : List ℕ) (printed : Members) → printed ≡ top_table (seen c) → IsUtf8 text → (members_depth printed ≤ 80 → parse_document text ≡ Some printed) →
-    config_of text ≡ Ok (seen c)
+pub config_of-printed : (c : Config) (text : List ℕ) (printed : Members) → printed ≡ top_table (config_seen c) → IsUtf8 text → (members_depth printed ≤ 80 → parse_document text ≡ Some printed) →
+    config_of text ≡ Ok (config_seen c)
 config_of-printed c text printed is utf8 reads =
-    let depth : members_depth (top_table (seen c)) ≤ 2 = depth-top c in
+    let depth : members_depth (top_table (config_seen c)) ≤ 2 = depth-top c in
     let shallow : members_depth printed ≤ 80 = rw is (omega arith) in
     config_of-some text printed utf8 (reads shallow) ∙ rw is (settings_of-table c)

@@ -1,5 +1,5 @@
 -- Facts on one end's settings: what they read as, from what each key reads as.
-use Rattle.std.proofs.Common.{sym, ◌∙◌, ◌≡◌, ℕ, Bool, true, false, List, [], ◌++◌, codes, Option, Some, None, Result, Ok, Err, refl}
+use Rattle.std.proofs.Common.{◌≡◌, ℕ, Bool, true, false, List, [], ◌++◌, codes, Option, Some, None, Result, Ok, Err, refl}
 use Rattle.ppp_conf.specs.declared.conf_fault.ConfFault.{ConfFault}
 use Rattle.ppp_conf.specs.declared.conf_why.ConfWhy.TheVariants.{Rule}
 use Rattle.ppp_conf.specs.declared.end_config.EndConfig.{EndConfig}

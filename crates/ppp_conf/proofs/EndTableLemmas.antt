@@ -1,9 +1,9 @@
 -- The printed table of an end reads as the end: one lemma a kind of key, and then one line a key.
-use Rattle.std.proofs.Common.{◌≡◌, ℕ, ◌<◌, ◌≤◌, pos, Bool, true, false, ◌&&◌, List, [], ◌∷◌, ◌++◌, length, take, get_or, codes, Option, Some, None, Result, Ok, Err, refl, sym, ap, ◌∙◌, arith, le-leb, leb-true, lit≤, lit<, zero, suc}
+use Rattle.std.proofs.Common.{◌≡◌, ℕ, ◌<◌, ◌≤◌, pos, Bool, true, false, List, [], ◌∷◌, length, take, codes, Option, Some, None, Ok, refl, ap, ◌∙◌, arith, le-leb, leb-true, lit≤, lit<, zero, suc}
 use Rattle.std.specs.Prelude.{is_some, nat_le, slice_index}
 use Rattle.std.proofs.lemmas.Bool.{and_parts}
 use Rattle.std.proofs.lemmas.List.{length-take-le}
-use Rattle.toml.specs.Data.{Data, Members, no_members, get_member, integer, boolean, string, array, members_depth, items_depth}
+use Rattle.toml.specs.Data.{Data, no_members, get_member, integer, boolean, string, array, members_depth, items_depth}
 use Rattle.ppp_packet.specs.declared.disc.Disc.{Disc}
 use Rattle.ppp_packet.specs.DiscClass.{is_good_disc}
 use Rattle.ppp_conf.specs.declared.end_config.EndConfig.{EndConfig}
@@ -22,7 +22,7 @@ use Rattle.ppp_conf.specs.SocketText.{is_socket, socket_of}
 use Rattle.ppp_conf.specs.Unknown.{knows, least_unknown}
 use Rattle.ppp_conf.proofs.EndConfigLemmas.{end_of-read}
 use Rattle.ppp_conf.proofs.FieldsLemmas.{or_else, found, get-all, known-all, none_unknown, depth-all, value_depth}
-use Rattle.ppp_conf.proofs.PrintedTexts.{dotted_of-text, given_of-text, ifid_of-text, ifid_of-none, disc_of-text, with_names-items, protocol_items-flat}
+use Rattle.ppp_conf.proofs.TextLemmas.{dotted_of-text, given_of-text, ifid_of-text, ifid_of-none, disc_of-text, with_names-items, protocol_items-flat}
 
 pub back_whole : (given : Given) (name : List ℕ) (least most default n : ℕ) → get_member name given.members ≡ Some (integer (pos n)) → (least ≤ n) × (n ≤ most) →
     key given name (whole least most) default ≡ Ok n

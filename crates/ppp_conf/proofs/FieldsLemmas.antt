@@ -1,5 +1,5 @@
 -- Facts on printed tables: what is found in them, that each key is known, and how deep they are.
-use Rattle.std.proofs.Common.{◌≡◌, ℕ, ◌≤◌, max, suc, Bool, true, false, cond, ◌&&◌, List, [], ◌∷◌, Option, Some, None, String, Global, Ordering, Less, Equal, Greater, string_bytes, nat_cmp, is_eq, refl, sym, ap, ◌∙◌, arith}
+use Rattle.std.proofs.Common.{◌≡◌, ℕ, ◌≤◌, Bool, true, false, cond, ◌&&◌, List, [], ◌∷◌, Option, Some, None, String, Global, Ordering, Less, Equal, Greater, string_bytes, nat_cmp, is_eq, refl, sym, ap, ◌∙◌, arith}
 use Rattle.std.specs.Prelude.{string_cmp}
 use Rattle.std.specs.BTreeMap.{insert_entry}
 use Rattle.std.specs.Cmp.Lexicographic.{slice_cmp}
@@ -13,7 +13,7 @@ use Rattle.toml.specs.View.{view, members_view}
 use Rattle.toml.specs.declared.value.Value.{Value}
 use Rattle.toml.proofs.Views.{Entry}
 use Rattle.ppp_conf.specs.Fields.{Field, put_member, put_value, put_all}
-use Rattle.ppp_conf.specs.Unknown.{lesser, unless, least_unknown}
+use Rattle.ppp_conf.specs.Unknown.{least_unknown}
 
 -- An entry put into a map is a member put into its members.
 

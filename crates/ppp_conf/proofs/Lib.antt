@@ -6,7 +6,7 @@ pub mod EndConfigLemmas
 pub mod EndTableLemmas
 pub mod FieldsLemmas
 pub mod HexTextLemmas
-pub mod PrintedTexts
 pub mod ProtocolsLemmas
 pub mod RefusalLemmas
+pub mod TextLemmas
 pub mod UnknownLemmas

@@ -1,5 +1,5 @@
 -- Facts on refusals.
-use Rattle.std.proofs.Common.{◌≡◌, ℕ, List}
+use Rattle.std.proofs.Common.{ℕ, List}
 use Rattle.ppp_conf.specs.declared.conf_fault.ConfFault.{ConfFault}
 use Rattle.ppp_conf.specs.declared.conf_fault.ConfFault.TheVariants.{Memory, Refused}
 use Rattle.ppp_conf.specs.declared.conf_why.ConfWhy.{ConfWhy}

@@ -1,5 +1,5 @@
 -- Endpoint discriminators as texts: the Class's digit, `:`, and the address in lower-case hexadecimal digits.
-use Rattle.std.specs.Prelude.{ℕ, ◌-◌, ◌/◌, Bool, ◌==◌, ◌&&◌, nat_le, if◌then◌else◌, List, [], ◌∷◌, take, length, Option, Some, None, option_map}
+use Rattle.std.specs.Prelude.{ℕ, ◌-◌, ◌/◌, ◌==◌, ◌&&◌, nat_le, if◌then◌else◌, List, [], ◌∷◌, take, length, Option, None, option_map}
 use Rattle.ppp_packet.specs.declared.disc.Disc.{Disc}
 use Rattle.ppp_packet.specs.DiscClass.{is_good_disc}
 use Rattle.ppp_conf.specs.HexText.{hex_octets}
@@ -12,7 +12,7 @@ disc_seen disc = (disc.class, take disc.size disc.address)
 abbrev pub disc_by : ℕ → List ℕ → Option (ℕ × List ℕ)
 disc_by class digits =
     if is_good_disc class (length digits / 2) then
-      option_map (λ address. (class, address)) (hex_octets (length digits / 2) digits)
+    option_map (λ address. (class, address)) (hex_octets (length digits / 2) digits)
     else None
 
 -- digits begin with `0` (48), and `:` is 58

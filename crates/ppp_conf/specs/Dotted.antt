@@ -1,6 +1,6 @@
 -- Dotted addresses: four decimal numbers of 0 to 255 without leading zeros, with dots between them (RFC 1332 section 3.3
 -- has the address in four octets).
-use Rattle.std.specs.Prelude.{ℕ, Bool, ◌==◌, if◌then◌else◌, List, [], ◌∷◌, Option, Some, None, option_map, option_and_then}
+use Rattle.std.specs.Prelude.{ℕ, ◌==◌, if◌then◌else◌, List, [], ◌∷◌, Option, Some, None, option_map, option_and_then}
 use Rattle.std.specs.Int.{w32, from_be_bytes}
 use Rattle.std.specs.Net.Reader.{read_ipv4}
 

@@ -1,8 +1,5 @@
 -- One end's settings: the table of its keys, and the rules.
-use Rattle.std.specs.Prelude.{◌≡◌, ℕ, Bool, true, false, ◌==◌, ◌&&◌, ◌||◌, nat_lt, if◌then◌else◌, List, [], ◌∷◌, ◌++◌, codes, Option, Some, None, is_none, Result, Ok, Err}
-use Rattle.toml.specs.Data.{Data}
-use Rattle.ppp_packet.specs.DiscClass.{is_within}
-use Rattle.ppp_conf.specs.declared.conf_why.ConfWhy.{ConfWhy}
+use Rattle.std.specs.Prelude.{◌≡◌, ℕ, Bool, true, false, List, [], ◌++◌, codes, Option, Some, None, Result, Ok}
 use Rattle.ppp_conf.specs.declared.conf_why.ConfWhy.TheVariants.{Rule}
 use Rattle.ppp_conf.specs.declared.end_config.EndConfig.{EndConfig}
 use Rattle.ppp_conf.specs.DiscText.{disc_seen, disc_of}

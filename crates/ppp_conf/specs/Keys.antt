@@ -8,6 +8,7 @@ use Rattle.toml.specs.Data.{Data, Members, no_members, get_member}
 use Rattle.toml.specs.View.{table_view}
 use Rattle.toml.specs.declared.value.Value.{Value}
 use Rattle.ppp_conf.specs.declared.conf_why.ConfWhy.{ConfWhy}
+use Rattle.ppp_conf.specs.declared.keys.Keys.{Keys}
 use Rattle.ppp_conf.specs.declared.conf_why.ConfWhy.TheVariants.{Missing}
 use Rattle.ppp_conf.specs.Refusal.{Refusal, refuse}
 
@@ -21,8 +22,9 @@ abbrev pub members_in : Option (Bor (BTreeMap (String Global) Value)) → Member
 members_in (Some table) = table_view table.now
 members_in None = no_members
 
-abbrev pub given : List ℕ → Option (Bor (BTreeMap (String Global) Value)) → Given
-given prefix table = record { prefix = prefix; members = members_in table }
+-- the table that keys are of
+abbrev pub keys_seen : Keys → Given
+keys_seen keys = record { prefix = keys.prefix.now; members = members_in keys.table }
 
 -- what was read, with the key's path where it is refused
 abbrev pub at : {A : Type 0} → List ℕ → Result A ConfWhy → Result A Refusal

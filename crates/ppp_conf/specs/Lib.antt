@@ -1,3 +1,4 @@
+pub mod ConfFault
 pub mod ConfWhy
 pub mod Config
 pub mod ConfigText

@@ -34,11 +34,11 @@ pub struct EndConfig {
     pub classes: u8,
     /// The Endpoint-Discriminator, whose Class has an address of that length (RFC 1990 section 5.1.3).
     pub disc: Disc,
-    /// The Link-Discriminator of link 1, 0 to 65,520 (RFC 2125 section 3.2); link l has the number l - 1 further.
+    /// The Link-Discriminator of link 1, 0 to 65,520 (after RFC 2125); link l has the number l - 1 further.
     pub link_disc: Option<u16>,
-    /// The Favored-Peer number, from 1 on (RFC 2125 section 4).
+    /// The Favored-Peer number, from 1 on (after RFC 2125).
     pub favored: Option<u32>,
-    /// Whether BACP and BAP are spoken (RFC 2125).
+    /// Whether BACP and BAP are spoken (after RFC 2125).
     pub bap: bool,
     /// Which network protocols are spoken: IPv4, IPv6, OSI, MPLS.
     pub protocols: [bool; 4],
@@ -48,7 +48,7 @@ pub struct EndConfig {
     pub give: Option<u32>,
     /// The Interface-Identifier to ask for, or None to ask for none (RFC 5072 section 4.1).
     pub ifid: Option<u64>,
-    /// The alignment of OSI network protocol data units, 0 to 4, 254 or 255 (RFC 1377).
+    /// The alignment of OSI network protocol data units, 0 to 4, 254 or 255 (after RFC 1377).
     pub align: u8,
     /// The most octets of a fragment, 64 to 8,192.
     pub fragment: u16,

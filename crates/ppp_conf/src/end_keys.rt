@@ -2,7 +2,7 @@
 
 ghost use Rattle.std.specs.Prelude.{◌≡◌, ◌≤◌, IfOk, IfErr};
 ghost use Rattle.ppp_conf.specs.EndConfig.{end_of, IsEnd};
-ghost use Rattle.ppp_conf.specs.Keys.{given};
+ghost use Rattle.ppp_conf.specs.Keys.{keys_seen};
 ghost use Rattle.ppp_conf.specs.Refusal.{HasRead, Reads, IsRefusal};
 
 use crate::conf_fault::ConfFault;
@@ -13,11 +13,14 @@ use crate::rules::broken_rule;
 
 /// Reads the keys of an end with this number of links, in table order: each with its form, its range and its default.
 /// A refusal of a rule is held back, since the keys of both ends come before it.
-pub(crate) fn read_end(keys: &Keys<'_>, links: u8) -> Result<Result<EndConfig, ConfFault>, ConfFault>
+pub(crate) fn read_end(
+    keys: &Keys<'_>,
+    links: u8,
+) -> Result<Result<EndConfig, ConfFault>, ConfFault>
     requires least { 1 ≤ links }
     requires most { links ≤ 16 }
-    ensures ok { IfOk result (HasRead (Reads IsEnd) (end_of links (given keys.now.prefix.now keys.now.table))) }
-    ensures err { IfErr result (IsRefusal (end_of links (given keys.now.prefix.now keys.now.table))) }
+    ensures ok { IfOk result (HasRead (Reads IsEnd) (end_of links (keys_seen keys.now))) }
+    ensures err { IfErr result (IsRefusal (end_of links (keys_seen keys.now))) }
     ensures links { IfOk result (λ read. IfOk read (λ config. config.links ≡ links)) }
 {
     let mru = keys.small("mru", 128, 8192, 1500)?;

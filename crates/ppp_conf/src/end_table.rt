@@ -51,7 +51,12 @@ fn put_network(alloc: Global, table: &mut Table, end: &EndConfig) -> Result<(), 
     put_there(alloc, table, "link_disc", end.link_disc.map(u32::from))?;
     put_there(alloc, table, "favored", end.favored)?;
     put_truth(alloc, table, "bap", end.bap)?;
-    put(alloc, table, "protocols", protocol_names(alloc, end.protocols)?)?;
+    put(
+        alloc,
+        table,
+        "protocols",
+        protocol_names(alloc, end.protocols)?,
+    )?;
     put_text(alloc, table, "ip", dotted_text(alloc, end.ip)?.as_str())?;
     put_address(alloc, table, "give", end.give)?;
     put_text(alloc, table, "ifid", ifid_text(alloc, end.ifid)?.as_str())?;
@@ -75,7 +80,12 @@ fn put_conduct(alloc: Global, table: &mut Table, end: &EndConfig) -> Result<(), 
 }
 
 /// Puts a dotted address at a key, if there is one.
-fn put_address(alloc: Global, table: &mut Table, name: &str, address: Option<u32>) -> Result<(), Memory>
+fn put_address(
+    alloc: Global,
+    table: &mut Table,
+    name: &str,
+    address: Option<u32>,
+) -> Result<(), Memory>
     ensures { OnOk result
         (table_view table.new ≡ put_value name.now (dotted_there address) (table_view table.old)) }
 {

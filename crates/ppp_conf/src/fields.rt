@@ -11,7 +11,8 @@ use toml::{Table, Value};
 
 /// Puts a value at a key.
 pub(crate) fn put(alloc: Global, table: &mut Table, name: &str, value: Value) -> Result<(), Memory>
-    ensures { OnOk result (table_view table.new ≡ put_member name.now (view value) (table_view table.old)) }
+    ensures { OnOk result
+        (table_view table.new ≡ put_member name.now (view value) (table_view table.old)) }
 {
     let key = String::from_str(alloc, name)?;
     match table.insert(key, value) {
@@ -29,7 +30,12 @@ pub(crate) fn put_number(alloc: Global, table: &mut Table, name: &str, n: u32) -
 }
 
 /// Puts a whole number at a key, if there is one.
-pub(crate) fn put_there(alloc: Global, table: &mut Table, name: &str, n: Option<u32>) -> Result<(), Memory>
+pub(crate) fn put_there(
+    alloc: Global,
+    table: &mut Table,
+    name: &str,
+    n: Option<u32>,
+) -> Result<(), Memory>
     ensures { OnOk result
         (table_view table.new ≡ put_value name.now (number_there n) (table_view table.old)) }
 {
@@ -40,7 +46,12 @@ pub(crate) fn put_there(alloc: Global, table: &mut Table, name: &str, n: Option<
 }
 
 /// Puts a truth value at a key.
-pub(crate) fn put_truth(alloc: Global, table: &mut Table, name: &str, value: bool) -> Result<(), Memory>
+pub(crate) fn put_truth(
+    alloc: Global,
+    table: &mut Table,
+    name: &str,
+    value: bool,
+) -> Result<(), Memory>
     ensures { OnOk result
         (table_view table.new ≡ put_member name.now (boolean value) (table_view table.old)) }
 {
@@ -48,7 +59,12 @@ pub(crate) fn put_truth(alloc: Global, table: &mut Table, name: &str, value: boo
 }
 
 /// Puts a text at a key.
-pub(crate) fn put_text(alloc: Global, table: &mut Table, name: &str, text: &str) -> Result<(), Memory>
+pub(crate) fn put_text(
+    alloc: Global,
+    table: &mut Table,
+    name: &str,
+    text: &str,
+) -> Result<(), Memory>
     ensures { OnOk result
         (table_view table.new ≡ put_member name.now (string text.now) (table_view table.old)) }
 {

@@ -8,7 +8,7 @@ ghost use Rattle.ppp_conf.specs.DiscText.{disc_of, disc_seen};
 ghost use Rattle.ppp_conf.specs.Dotted.{dotted_of, given_of};
 ghost use Rattle.ppp_conf.specs.Form.{whole, is_zero_or, zero_or, is_alignment, alignment, truth, text_of, names, there, table};
 ghost use Rattle.ppp_conf.specs.HexText.{ifid_of};
-ghost use Rattle.ppp_conf.specs.Keys.{at, given, key, members_in, required};
+ghost use Rattle.ppp_conf.specs.Keys.{at, key, keys_seen, members_in, required};
 ghost use Rattle.ppp_conf.specs.Protocols.{no_protocols};
 ghost use Rattle.ppp_conf.specs.Refusal.{IsRefusal, refuse};
 ghost use Rattle.ppp_conf.specs.Rules.{all_within};
@@ -39,7 +39,7 @@ impl<'t> Keys<'t> {
     /// The value of a key.
     pub(crate) fn get(&self, name: &'static str) -> Option<&'t Value>
         ensures { option_map (λ value. view value.now) result
-            ≡ get_member name.now (given self.now.prefix.now self.now.table).members }
+            ≡ get_member name.now (keys_seen self.now).members }
     {
         match self.table {
             Some(table) => table.get(name),
@@ -69,13 +69,19 @@ impl<'t> Keys<'t> {
     }
 
     /// A whole number of 8 bits within these bounds.
-    pub(crate) fn octet(&self, name: &'static str, least: u8, most: u8, default: u8) -> Result<u8, ConfFault>
+    pub(crate) fn octet(
+        &self,
+        name: &'static str,
+        least: u8,
+        most: u8,
+        default: u8,
+    ) -> Result<u8, ConfFault>
         requires low { least ≤ default }
         requires high { default ≤ most }
         ensures ok { IfOk result (λ n.
-            key (given self.now.prefix.now self.now.table) name.now (whole least most) default ≡ Ok n) }
+            key (keys_seen self.now) name.now (whole least most) default ≡ Ok n) }
         ensures err { IfErr result (IsRefusal
-            (key (given self.now.prefix.now self.now.table) name.now (whole least most) default)) }
+            (key (keys_seen self.now) name.now (whole least most) default)) }
         ensures low { IfOk result (λ n. least ≤ n) }
         ensures high { IfOk result (λ n. n ≤ most) }
     {
@@ -86,13 +92,19 @@ impl<'t> Keys<'t> {
     }
 
     /// A whole number of 16 bits within these bounds.
-    pub(crate) fn small(&self, name: &'static str, least: u16, most: u16, default: u16) -> Result<u16, ConfFault>
+    pub(crate) fn small(
+        &self,
+        name: &'static str,
+        least: u16,
+        most: u16,
+        default: u16,
+    ) -> Result<u16, ConfFault>
         requires low { least ≤ default }
         requires high { default ≤ most }
         ensures ok { IfOk result (λ n.
-            key (given self.now.prefix.now self.now.table) name.now (whole least most) default ≡ Ok n) }
+            key (keys_seen self.now) name.now (whole least most) default ≡ Ok n) }
         ensures err { IfErr result (IsRefusal
-            (key (given self.now.prefix.now self.now.table) name.now (whole least most) default)) }
+            (key (keys_seen self.now) name.now (whole least most) default)) }
         ensures low { IfOk result (λ n. least ≤ n) }
         ensures high { IfOk result (λ n. n ≤ most) }
     {
@@ -103,13 +115,19 @@ impl<'t> Keys<'t> {
     }
 
     /// A whole number of 32 bits within these bounds.
-    pub(crate) fn large(&self, name: &'static str, least: u32, most: u32, default: u32) -> Result<u32, ConfFault>
+    pub(crate) fn large(
+        &self,
+        name: &'static str,
+        least: u32,
+        most: u32,
+        default: u32,
+    ) -> Result<u32, ConfFault>
         requires low { least ≤ default }
         requires high { default ≤ most }
         ensures ok { IfOk result (λ n.
-            key (given self.now.prefix.now self.now.table) name.now (whole least most) default ≡ Ok n) }
+            key (keys_seen self.now) name.now (whole least most) default ≡ Ok n) }
         ensures err { IfErr result (IsRefusal
-            (key (given self.now.prefix.now self.now.table) name.now (whole least most) default)) }
+            (key (keys_seen self.now) name.now (whole least most) default)) }
         ensures low { IfOk result (λ n. least ≤ n) }
         ensures high { IfOk result (λ n. n ≤ most) }
     {
@@ -120,10 +138,15 @@ impl<'t> Keys<'t> {
     }
 
     /// A whole number of 16 bits within these bounds, that may be missing.
-    pub(crate) fn small_there(&self, name: &'static str, least: u16, most: u16) -> Result<Option<u16>, ConfFault>
-        ensures ok { IfOk result (λ n. key (given self.now.prefix.now self.now.table) name.now
+    pub(crate) fn small_there(
+        &self,
+        name: &'static str,
+        least: u16,
+        most: u16,
+    ) -> Result<Option<u16>, ConfFault>
+        ensures ok { IfOk result (λ n. key (keys_seen self.now) name.now
             (λ value. there (whole least most value)) None ≡ Ok n) }
-        ensures err { IfErr result (IsRefusal (key (given self.now.prefix.now self.now.table) name.now
+        ensures err { IfErr result (IsRefusal (key (keys_seen self.now) name.now
             (λ value. there (whole least most value)) None)) }
         ensures within { IfOk result (λ n. all_within least most n ≡ true) }
     {
@@ -134,10 +157,15 @@ impl<'t> Keys<'t> {
     }
 
     /// A whole number of 32 bits within these bounds, that may be missing.
-    pub(crate) fn large_there(&self, name: &'static str, least: u32, most: u32) -> Result<Option<u32>, ConfFault>
-        ensures ok { IfOk result (λ n. key (given self.now.prefix.now self.now.table) name.now
+    pub(crate) fn large_there(
+        &self,
+        name: &'static str,
+        least: u32,
+        most: u32,
+    ) -> Result<Option<u32>, ConfFault>
+        ensures ok { IfOk result (λ n. key (keys_seen self.now) name.now
             (λ value. there (whole least most value)) None ≡ Ok n) }
-        ensures err { IfErr result (IsRefusal (key (given self.now.prefix.now self.now.table) name.now
+        ensures err { IfErr result (IsRefusal (key (keys_seen self.now) name.now
             (λ value. there (whole least most value)) None)) }
         ensures within { IfOk result (λ n. all_within least most n ≡ true) }
     {
@@ -148,11 +176,16 @@ impl<'t> Keys<'t> {
     }
 
     /// 0, or a whole number within these bounds; 0 where it isn't there.
-    pub(crate) fn zero_or(&self, name: &'static str, least: u16, most: u16) -> Result<u16, ConfFault>
+    pub(crate) fn zero_or(
+        &self,
+        name: &'static str,
+        least: u16,
+        most: u16,
+    ) -> Result<u16, ConfFault>
         ensures ok { IfOk result (λ n.
-            key (given self.now.prefix.now self.now.table) name.now (zero_or least most) 0 ≡ Ok n) }
+            key (keys_seen self.now) name.now (zero_or least most) 0 ≡ Ok n) }
         ensures err { IfErr result (IsRefusal
-            (key (given self.now.prefix.now self.now.table) name.now (zero_or least most) 0)) }
+            (key (keys_seen self.now) name.now (zero_or least most) 0)) }
         ensures within { IfOk result (λ n. is_zero_or least most n ≡ true) }
     {
         match self.get(name) {
@@ -164,9 +197,9 @@ impl<'t> Keys<'t> {
     /// An alignment; 0 where it isn't there.
     pub(crate) fn alignment(&self, name: &'static str) -> Result<u8, ConfFault>
         ensures ok { IfOk result (λ n.
-            key (given self.now.prefix.now self.now.table) name.now alignment 0 ≡ Ok n) }
+            key (keys_seen self.now) name.now alignment 0 ≡ Ok n) }
         ensures err { IfErr result (IsRefusal
-            (key (given self.now.prefix.now self.now.table) name.now alignment 0)) }
+            (key (keys_seen self.now) name.now alignment 0)) }
         ensures form { IfOk result (λ n. is_alignment n ≡ true) }
     {
         match self.get(name) {
@@ -178,9 +211,9 @@ impl<'t> Keys<'t> {
     /// A truth value.
     pub(crate) fn truth(&self, name: &'static str, default: bool) -> Result<bool, ConfFault>
         ensures ok { IfOk result (λ value.
-            key (given self.now.prefix.now self.now.table) name.now truth default ≡ Ok value) }
+            key (keys_seen self.now) name.now truth default ≡ Ok value) }
         ensures err { IfErr result (IsRefusal
-            (key (given self.now.prefix.now self.now.table) name.now truth default)) }
+            (key (keys_seen self.now) name.now truth default)) }
     {
         match self.get(name) {
             Some(value) => self.said(name, form::truth(value)),
@@ -191,9 +224,9 @@ impl<'t> Keys<'t> {
     /// A dotted address; `0.0.0.0` where it isn't there.
     pub(crate) fn address(&self, name: &'static str) -> Result<u32, ConfFault>
         ensures ok { IfOk result (λ n.
-            key (given self.now.prefix.now self.now.table) name.now (text_of dotted_of) 0 ≡ Ok n) }
+            key (keys_seen self.now) name.now (text_of dotted_of) 0 ≡ Ok n) }
         ensures err { IfErr result (IsRefusal
-            (key (given self.now.prefix.now self.now.table) name.now (text_of dotted_of) 0)) }
+            (key (keys_seen self.now) name.now (text_of dotted_of) 0)) }
     {
         match self.get(name) {
             Some(value) => self.said(name, form::dotted(value)),
@@ -203,9 +236,9 @@ impl<'t> Keys<'t> {
 
     /// A dotted address that isn't `0.0.0.0`, that may be missing.
     pub(crate) fn given_address(&self, name: &'static str) -> Result<Option<u32>, ConfFault>
-        ensures ok { IfOk result (λ n. key (given self.now.prefix.now self.now.table) name.now
+        ensures ok { IfOk result (λ n. key (keys_seen self.now) name.now
             (λ value. there (text_of given_of value)) None ≡ Ok n) }
-        ensures err { IfErr result (IsRefusal (key (given self.now.prefix.now self.now.table) name.now
+        ensures err { IfErr result (IsRefusal (key (keys_seen self.now) name.now
             (λ value. there (text_of given_of value)) None)) }
         ensures within { IfOk result (λ n. all_within 1 4294967295 n ≡ true) }
     {
@@ -218,9 +251,9 @@ impl<'t> Keys<'t> {
     /// An interface identifier; 0 where it isn't there.
     pub(crate) fn identifier(&self, name: &'static str) -> Result<Option<u64>, ConfFault>
         ensures ok { IfOk result (λ n.
-            key (given self.now.prefix.now self.now.table) name.now (text_of ifid_of) (Some 0) ≡ Ok n) }
+            key (keys_seen self.now) name.now (text_of ifid_of) (Some 0) ≡ Ok n) }
         ensures err { IfErr result (IsRefusal
-            (key (given self.now.prefix.now self.now.table) name.now (text_of ifid_of) (Some 0))) }
+            (key (keys_seen self.now) name.now (text_of ifid_of) (Some 0))) }
         ensures within { IfOk result (λ n. all_within 0 18446744073709551615 n ≡ true) }
     {
         match self.get(name) {
@@ -231,10 +264,10 @@ impl<'t> Keys<'t> {
 
     /// An endpoint discriminator; that of Class 0 where it isn't there.
     pub(crate) fn discriminator(&self, name: &'static str) -> Result<Disc, ConfFault>
-        ensures ok { IfOk result (λ disc. key (given self.now.prefix.now self.now.table) name.now
+        ensures ok { IfOk result (λ disc. key (keys_seen self.now) name.now
             (text_of disc_of) (0, []) ≡ Ok (disc_seen disc)) }
         ensures err { IfErr result (IsRefusal
-            (key (given self.now.prefix.now self.now.table) name.now (text_of disc_of) (0, []))) }
+            (key (keys_seen self.now) name.now (text_of disc_of) (0, []))) }
         ensures good { IfOk result (λ disc. is_good_disc disc.class disc.size ≡ true) }
         ensures octets { IfOk result (λ disc. (i : ℕ) → slice_index disc.address i < 256) }
     {
@@ -247,9 +280,9 @@ impl<'t> Keys<'t> {
     /// A set of protocols; the empty one where it isn't there.
     pub(crate) fn protocols(&self, name: &'static str) -> Result<[bool; 4], ConfFault>
         ensures ok { IfOk result (λ set.
-            key (given self.now.prefix.now self.now.table) name.now names no_protocols ≡ Ok set) }
+            key (keys_seen self.now) name.now names no_protocols ≡ Ok set) }
         ensures err { IfErr result (IsRefusal
-            (key (given self.now.prefix.now self.now.table) name.now names no_protocols)) }
+            (key (keys_seen self.now) name.now names no_protocols)) }
     {
         match self.get(name) {
             Some(value) => self.said(name, form::names(value)),
@@ -258,11 +291,15 @@ impl<'t> Keys<'t> {
     }
 
     /// The text that names a socket.
-    pub(crate) fn socket(&self, name: &'static str, default: &'static str) -> Result<SocketText, ConfFault>
+    pub(crate) fn socket(
+        &self,
+        name: &'static str,
+        default: &'static str,
+    ) -> Result<SocketText, ConfFault>
         requires { is_socket default.now ≡ true }
-        ensures ok { IfOk result (λ text. key (given self.now.prefix.now self.now.table) name.now
+        ensures ok { IfOk result (λ text. key (keys_seen self.now) name.now
             (text_of socket_of) default.now ≡ Ok text) }
-        ensures err { IfErr result (IsRefusal (key (given self.now.prefix.now self.now.table) name.now
+        ensures err { IfErr result (IsRefusal (key (keys_seen self.now) name.now
             (text_of socket_of) default.now)) }
         ensures form { IfOk result (λ text. is_socket text ≡ true) }
     {
@@ -276,9 +313,9 @@ impl<'t> Keys<'t> {
     /// The same text, as it stands in the table.
     fn socket_name(&self, name: &'static str, default: &'static str) -> Result<&'t str, ConfFault>
         requires { is_socket default.now ≡ true }
-        ensures ok { IfOk result (λ text. key (given self.now.prefix.now self.now.table) name.now
+        ensures ok { IfOk result (λ text. key (keys_seen self.now) name.now
             (text_of socket_of) default.now ≡ Ok text.now) }
-        ensures err { IfErr result (IsRefusal (key (given self.now.prefix.now self.now.table) name.now
+        ensures err { IfErr result (IsRefusal (key (keys_seen self.now) name.now
             (text_of socket_of) default.now)) }
         ensures form { IfOk result (λ text. is_socket text.now ≡ true) }
     {
@@ -290,9 +327,9 @@ impl<'t> Keys<'t> {
     /// A whole number of 8 bits within these bounds, that has to be there.
     pub(crate) fn required(&self, name: &'static str, least: u8, most: u8) -> Result<u8, ConfFault>
         ensures ok { IfOk result (λ n.
-            required (given self.now.prefix.now self.now.table) name.now (whole least most) ≡ Ok n) }
+            required (keys_seen self.now) name.now (whole least most) ≡ Ok n) }
         ensures err { IfErr result (IsRefusal
-            (required (given self.now.prefix.now self.now.table) name.now (whole least most))) }
+            (required (keys_seen self.now) name.now (whole least most))) }
     {
         match self.get(name) {
             Some(value) => self.said(name, form::octet(value, least, most)),
@@ -302,10 +339,10 @@ impl<'t> Keys<'t> {
 
     /// A table.
     pub(crate) fn table(&self, name: &'static str) -> Result<Option<&'t Table>, ConfFault>
-        ensures ok { IfOk result (λ found. key (given self.now.prefix.now self.now.table) name.now
+        ensures ok { IfOk result (λ found. key (keys_seen self.now) name.now
             table no_members ≡ Ok (members_in found)) }
         ensures err { IfErr result (IsRefusal
-            (key (given self.now.prefix.now self.now.table) name.now table no_members)) }
+            (key (keys_seen self.now) name.now table no_members)) }
     {
         match self.get(name) {
             Some(value) => Ok(Some(self.said(name, form::table(value))?)),

@@ -14,7 +14,8 @@ pub(crate) fn broken_rule(
     favored: Option<u32>,
     link_disc: Option<u16>,
 ) -> Option<&'static str>
-    ensures { option_map (λ name. name.now) result ≡ broken short classes most least bap mrru favored link_disc }
+    ensures { option_map (λ name. name.now) result
+        ≡ broken short classes most least bap mrru favored link_disc }
 {
     if short && classes > 4 {
         return Some("classes");

@@ -96,7 +96,8 @@ fn least_unknown(
     table: Option<&Table>,
     level: Level,
 ) -> Result<Option<KeyPath>, AllocError>
-    ensures { IfOk result (λ path. path ≡ least_unknown prefix.now (knows level) (members_in table.entry)) }
+    ensures { IfOk result (λ path.
+        path ≡ least_unknown prefix.now (knows level) (members_in table.entry)) }
 {
     let Some(table) = table else {
         return Ok(None);
@@ -134,7 +135,11 @@ fn inside<'t>(top: &'t Table, name: &str) -> Option<&'t Table>
 }
 
 /// The least path of all keys that aren't known.
-pub(crate) fn unknown(alloc: Global, top: &Table, version: u8) -> Result<Option<KeyPath>, AllocError>
+pub(crate) fn unknown(
+    alloc: Global,
+    top: &Table,
+    version: u8,
+) -> Result<Option<KeyPath>, AllocError>
     ensures { IfOk result (λ path. path ≡ unknown_of version (table_view top.now)) }
 {
     let at_top = least_unknown(alloc, "", Some(top), Level::Top)?;

@@ -1,11 +1,11 @@
 use Rattle.std.proofs.Common.{refl}
-use Rattle.ppp_conf.specs.Keys.{given}
+use Rattle.ppp_conf.specs.Keys.{keys_seen}
 use Rattle.ppp_conf.proofs.EndConfigLemmas.{end_of-read, read_end-whole, read_end-broken}
 use Rattle.ppp_conf.proofs.end_keys.read_end.Goals as goal
 
 pub returns-in-Some-clause-ok : goal.returns-in-Some-clause-ok
 returns-in-Some-clause-ok c =
-    let is = end_of-read c.args.links (given c.args.keys.now.prefix.now c.args.keys.now.table) _ _ _ _ _ _ _ _ _ _ _ _ _ _ _ _ _ _ _ _ _ _ _ _ _ _
+    let is = end_of-read c.args.links (keys_seen c.args.keys.now) _ _ _ _ _ _ _ _ _ _ _ _ _ _ _ _ _ _ _ _ _ _ _ _ _ _
     c.in_ok-mru.ensures.ok c.in_ok-accm.ensures.ok c.in_ok-magic.ensures.ok c.in_ok-pfc.ensures.ok
     c.in_ok-acfc.ensures.ok c.in_ok-mrru.ensures.ok c.in_ok-short.ensures.ok c.in_ok-classes.ensures.ok
     c.in_ok-disc.ensures.ok c.in_ok-link_disc.ensures.ok c.in_ok-favored.ensures.ok c.in_ok-bap.ensures.ok
@@ -17,7 +17,7 @@ returns-in-Some-clause-ok c =
 
 pub returns-in-None-clause-ok : goal.returns-in-None-clause-ok
 returns-in-None-clause-ok c =
-    let is = end_of-read c.args.links (given c.args.keys.now.prefix.now c.args.keys.now.table) _ _ _ _ _ _ _ _ _ _ _ _ _ _ _ _ _ _ _ _ _ _ _ _ _ _
+    let is = end_of-read c.args.links (keys_seen c.args.keys.now) _ _ _ _ _ _ _ _ _ _ _ _ _ _ _ _ _ _ _ _ _ _ _ _ _ _
     c.in_ok-mru.ensures.ok c.in_ok-accm.ensures.ok c.in_ok-magic.ensures.ok c.in_ok-pfc.ensures.ok
     c.in_ok-acfc.ensures.ok c.in_ok-mrru.ensures.ok c.in_ok-short.ensures.ok c.in_ok-classes.ensures.ok
     c.in_ok-disc.ensures.ok c.in_ok-link_disc.ensures.ok c.in_ok-favored.ensures.ok c.in_ok-bap.ensures.ok

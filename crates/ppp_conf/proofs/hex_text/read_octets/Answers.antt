@@ -1,4 +1,4 @@
-use Rattle.std.proofs.Common.{refl, sym}
+use Rattle.std.proofs.Common.{refl}
 use Rattle.ppp_conf.specs.HexText.{hex_octets}
 use Rattle.ppp_conf.proofs.HexTextLemmas.{IsRead-decoded}
 use Rattle.ppp_conf.proofs.hex_text.read_octets.Goals as goal

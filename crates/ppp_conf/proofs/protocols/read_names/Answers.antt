@@ -1,4 +1,4 @@
-use Rattle.std.proofs.Common.{◌≡◌, ◌<◌, ◌≤◌, ◌∙◌, sym, length, None, Some, arith}
+use Rattle.std.proofs.Common.{◌≡◌, ◌<◌, ◌≤◌, ◌∙◌, sym, length, None, Some}
 use Rattle.ppp_conf.specs.Protocols.{with_name}
 use Rattle.toml.specs.Data.{as_str}
 use Rattle.toml.specs.View.{view}

@@ -1,10 +1,10 @@
-//! Settings, as they are read.
+//! The keys of settings, and what a text reads as.
 
 ghost use Rattle.std.specs.Prelude.{◌≡◌, ◌≤◌, [], Ok, IfOk, IfErr, OnOk};
 ghost use Rattle.toml.specs.View.{table_view};
 ghost use Rattle.ppp_conf.specs.Config.{IsConfig, all_known, config_of, end_at, settings_of};
 ghost use Rattle.ppp_conf.specs.EndConfig.{IsEnd};
-ghost use Rattle.ppp_conf.specs.Keys.{given};
+ghost use Rattle.ppp_conf.specs.Keys.{keys_seen};
 ghost use Rattle.ppp_conf.specs.Refusal.{HasRead, Reads, IsRefusal};
 ghost use Rattle.ppp_conf.specs.Unknown.{unknown_of};
 
@@ -18,8 +18,8 @@ use crate::unknown::unknown;
 use std::alloc::Global;
 use toml::Table;
 
-/// Reads settings, a TOML text.
-
+/// Reads settings, a TOML text. The first refusal is answered, in the order of the crate's first page; want of memory may
+/// be answered in the place of any.
 pub fn read_config(alloc: Global, text: &[u8]) -> Result<Config, ConfFault>
     ensures ok { IfOk result (HasRead IsConfig (config_of text.now)) }
     ensures err { IfErr result (IsRefusal (config_of text.now)) }
@@ -88,9 +88,9 @@ fn end_at(
     requires least { 1 ≤ links }
     requires most { links ≤ 16 }
     ensures ok { IfOk result (HasRead (Reads IsEnd)
-        (end_at links name.now prefix.now (given top.now.prefix.now top.now.table))) }
+        (end_at links name.now prefix.now (keys_seen top.now))) }
     ensures err { IfErr result (IsRefusal
-        (end_at links name.now prefix.now (given top.now.prefix.now top.now.table))) }
+        (end_at links name.now prefix.now (keys_seen top.now))) }
     ensures links { IfOk result (λ read. IfOk read (λ config. config.links ≡ links)) }
 {
     let table = top.table(name)?;

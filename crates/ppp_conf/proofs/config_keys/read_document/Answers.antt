@@ -6,7 +6,7 @@ use Rattle.ppp_conf.specs.EndConfig.{EndSettings}
 use Rattle.ppp_conf.specs.Keys.{Given}
 use Rattle.ppp_conf.specs.Refusal.{Refusal}
 use Rattle.ppp_conf.proofs.ConfigLemmas.{settings_of-both, both-a_keys, both-b_keys, both-a_rule, both-b_rule, both-read, read_as, refused_as, whole_as}
-use Rattle.ppp_conf.proofs.settings.read_document.Goals as goal
+use Rattle.ppp_conf.proofs.config_keys.read_document.Goals as goal
 
 pub returns-in_err-a-clause-err : goal.returns-in_err-a-clause-err
 returns-in_err-a-clause-err c =

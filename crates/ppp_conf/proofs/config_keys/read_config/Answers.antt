@@ -3,7 +3,7 @@ use Rattle.ppp_conf.specs.Config.{Settings}
 use Rattle.ppp_conf.specs.declared.conf_why.ConfWhy.TheVariants.{Toml}
 use Rattle.ppp_conf.proofs.ConfigLemmas.{config_of-some, config_of-none}
 use Rattle.ppp_conf.proofs.RefusalLemmas.{IsRefusal-same}
-use Rattle.ppp_conf.proofs.settings.read_config.Goals as goal
+use Rattle.ppp_conf.proofs.config_keys.read_config.Goals as goal
 
 pub returns-in-Ok-clause-ok : goal.returns-in-Ok-clause-ok
 returns-in-Ok-clause-ok c = rw (config_of-some _ _ c.in-Ok.ensures.ok.0 c.in-Ok.ensures.ok.1) c.read_document.ensures.ok

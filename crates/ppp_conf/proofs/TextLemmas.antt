@@ -1,19 +1,17 @@
 -- The texts of the settings read as the values that they are printed from.
-use Rattle.std.proofs.Common.{◌≡◌, ℕ, ◌+◌, ◌-◌, ◌*◌, ◌/◌, ◌%◌, ◌<◌, ◌≤◌, ◌^◌, Bool, true, false, ◌&&◌, ◌⊎◌, inl, inr, List, [], ◌∷◌, length, take, get_or, Option, Some, None, option_map, codes, refl, sym, ap, ◌∙◌, arith, le-leb, zero, suc, lit<, ne_eqb}
+use Rattle.std.proofs.Common.{◌≡◌, ℕ, ◌+◌, ◌-◌, ◌/◌, ◌%◌, ◌<◌, ◌≤◌, ◌^◌, Bool, true, false, ◌&&◌, inl, inr, List, [], ◌∷◌, length, get_or, Some, None, codes, refl, ap, ◌∙◌, arith, le-leb, zero, suc, lit<, ne_eqb}
 use Rattle.std.specs.Prelude.{slice_index, bytes_eq, nat_le}
-use Rattle.std.specs.Int.{w32, w64, to_be_bytes, from_be_bytes}
+use Rattle.std.specs.Int.{w32, w64, to_be_bytes}
 use Rattle.std.specs.List.{list_all}
-use Rattle.std.specs.Net.Text.{ipv4_text}
 use Rattle.std.proofs.NetLemmas.Texts.{IsDotted-ipv4_text}
 use Rattle.std.proofs.lemmas.Bool.{and_parts, cases_lt, false_from_ne_true}
-use Rattle.std.proofs.lemmas.List.{length-take-le, get_or-take}
 use Rattle.std.proofs.lemmas.Nat.{from_be_bytes-to_be_bytes_4, from_be_bytes-to_be_bytes_8}
 use Rattle.std.proofs.lemmas.Slice.Eq.{bytes_eq-Decides}
 use Rattle.hex.specs.Hex.{IsBytes, encode_with, encode_lower, lower_digits}
 use Rattle.hex.proofs.HexLemmas.{length-encode_with, decode_sized-encode_lower}
-use Rattle.toml.specs.Data.{Items, items_depth}
+use Rattle.toml.specs.Data.{items_depth}
 use Rattle.ppp_packet.specs.DiscClass.{is_good_disc}
-use Rattle.ppp_conf.specs.DiscText.{disc_by, disc_of}
+use Rattle.ppp_conf.specs.DiscText.{disc_of}
 use Rattle.ppp_conf.specs.Dotted.{dotted_of, given_of}
 use Rattle.ppp_conf.specs.EndTable.{disc_text, dotted_text, ifid_text, protocol_items}
 use Rattle.ppp_conf.specs.HexText.{hex_octets, ifid_of, is_lower_digit}
@@ -80,9 +78,9 @@ bytes_fit_8 n (suc (suc (suc (suc (suc (suc (suc (suc k)))))))) = lit< tt
 not_none : (text : List ℕ) → length text ≡ 16 → bytes_eq text (codes "none") ≡ false
 not_none text long =
     false_from_ne_true (bytes_eq text (codes "none")) (λ same.
-      let equal : text ≡ codes "none" = (bytes_eq-Decides text (codes "none")).0 same in
-      let four : length text ≡ 4 = ap length equal in
-      absurd (omega arith))
+    let equal : text ≡ codes "none" = (bytes_eq-Decides text (codes "none")).0 same in
+    let four : length text ≡ 4 = ap length equal in
+    absurd (omega arith))
 
 pub ifid_of-text : (n : ℕ) → n ≤ 18446744073709551615 → ifid_of (ifid_text (Some n)) ≡ Some (Some n)
 unfolding ifid_of
