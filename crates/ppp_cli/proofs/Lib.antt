@@ -1,3 +1,4 @@
 pub mod AgreementLemmas
 pub mod AnswerLemmas
 pub mod InputLemmas
+pub mod ReplyLemmas

@@ -1,14 +1,17 @@
 -- What the program answers and writes where nothing fails.
-use Rattle.std.specs.Prelude.{ℕ, Bool, ◌||◌, nat_lt, if◌then◌else◌, List, ◌++◌, length, Option, Some, None, Result, Ok, Err, codes}
+use Rattle.std.specs.Prelude.{ℕ, Bool, not, ◌&&◌, ◌==◌, nat_lt, if◌then◌else◌, List, ◌++◌, length, Option, Some, None, Result, Ok, Err, codes}
 use Rattle.std.specs.Fmt.{decimal}
-use Rattle.std.specs.Str.{bytes_eq}
+use Rattle.std.specs.List.{list_any}
 use Rattle.ppp_cli.specs.declared.command.Command.{Command}
 use Rattle.ppp_cli.specs.declared.command.Command.TheVariants.{Replay, Show}
 use Rattle.ppp_cli.specs.declared.input.TheConstants.{MOST_OCTETS}
 use Rattle.ppp_cli.specs.declared.reply.Reply.{Reply as Reply'}
-use Rattle.ppp_cli.specs.declared.reply.TheConstants.{LINKS}
 use Rattle.ppp_cli.specs.declared.status.Status.{Status}
-use Rattle.ppp_cli.specs.declared.status.Status.TheVariants.{Ok as Fine, BadWords, TooLong, BadLine, Outstanding, NotBuilt}
+use Rattle.ppp_cli.specs.declared.status.Status.TheVariants.{Ok as Fine, BadConfig, BadWords, TooLong, BadLine, Outstanding, NotBuilt}
+use Rattle.ppp_conf.specs.Config.{Settings as Config, config_of}
+use Rattle.ppp_conf.specs.ConfWhy.{why_name as conf_why_name}
+use Rattle.ppp_conf.specs.EndConfig.{EndSettings}
+use Rattle.ppp_conf.specs.Refusal.{Refusal as ConfRefusal}
 use Rattle.ppp_script.specs.Event.{event_form}
 use Rattle.ppp_script.specs.LineWhy.{why_name}
 use Rattle.ppp_script.specs.Script.{Refusal as Refusal', events_of}
@@ -19,7 +22,7 @@ use Rattle.ppp_show.specs.Stream.{show_of}
 use Rattle.ppp_text.specs.Parts.{settings_in, script_in}
 use Rattle.ppp_world.specs.Refusal.{refusal_text}
 use Rattle.ppp_world.specs.Run.{Moment, run_of, report, refusal, before_refusal}
-use Rattle.ppp_world.specs.Settings.{default_settings}
+use Rattle.ppp_world.specs.Settings.{Settings, settings_in as asked_in}
 use Rattle.ppp_world.specs.declared.refusal.Refusal.{Refusal}
 
 pub record Reply : Type 0 where
@@ -57,27 +60,42 @@ reply_to_line line why = says (BadLine line) (bad_line line why)
 abbrev pub refusal_line : Refusal → List ℕ
 refusal_line refused = refusal_text refused ++ codes "\n"
 
+-- `config KEY WHY`
+abbrev pub bad_config : ConfRefusal → List ℕ
+bad_config refused = codes "config " ++ refused.key ++ codes " " ++ conf_why_name refused.why ++ codes "\n"
+
+-- a report, and behind it the line of the step that is refused, if one is
+abbrev pub says_with : List ℕ → Option Refusal → Reply
+says_with told None = says Fine told
+says_with told (Some refused) = says (Outstanding refused.step) (told ++ refusal_line refused)
+
 -- the report of a run, or of its steps before the one that is refused and the line of that
-abbrev pub reply_to_run : List Moment → Option Refusal → Reply
-reply_to_run run None = says Fine (report run)
-reply_to_run run (Some refused) =
-    says (Outstanding refused.step) (report (before_refusal run) ++ refusal_line refused)
+abbrev pub reply_to_run : Settings → List Moment → Option Refusal → Reply
+reply_to_run s run None = says Fine (report s run)
+reply_to_run s run (Some refused) = says_with (report s (before_refusal run)) (Some refused)
 
-abbrev pub reply_to_events : Result (List Event) Refusal' → Reply
-reply_to_events (Ok events) =
-    let run = run_of default_settings events in reply_to_run run (refusal run)
-reply_to_events (Err refused) = reply_to_line refused.line refused.why
+abbrev pub reply_to_events : Settings → Result (List Event) Refusal' → Reply
+reply_to_events s (Ok events) =
+    let run = run_of s events in reply_to_run s run (refusal run)
+reply_to_events s (Err refused) = reply_to_line refused.line refused.why
 
--- the settings that are built: this one line, ended by LF or by the end of the input
-abbrev pub is_built : List ℕ → Bool
-is_built settings = bytes_eq settings (codes "version = 1") || bytes_eq settings (codes "version = 1\n")
+-- an end whose settings are built: no multilink, and no network protocol
+abbrev pub is_single : EndSettings → Bool
+is_single s = (s.mrru == 0) && not (list_any (λ listed. listed) s.protocols)
+
+-- the settings that are built: those, and one link
+abbrev pub is_built : Config → Bool
+is_built c = (c.links == 1) && is_single c.a && is_single c.b
 
 -- the settings are looked at first, then the script's lines, then its steps in order
-abbrev pub reply_to_replay : List ℕ → Reply
-reply_to_replay text =
-    if is_built (settings_in text)
-    then reply_to_events (events_of event_form LINKS (script_in text))
+abbrev pub reply_to_settings : Result Config ConfRefusal → List ℕ → Reply
+reply_to_settings (Ok c) script =
+    if is_built c then reply_to_events (asked_in c) (events_of event_form c.links script)
     else says NotBuilt not_built_line
+reply_to_settings (Err refused) script = says BadConfig (bad_config refused)
+
+unfoldable pub reply_to_replay : List ℕ → Reply
+reply_to_replay text = reply_to_settings (config_of (settings_in text)) (script_in text)
 
 -- what a capture shows, or its first line that is refused
 abbrev pub reply_to_capture : Result (List ℕ) ℕ → Reply

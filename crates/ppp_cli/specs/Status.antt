@@ -1,7 +1,7 @@
 -- How a run of the program ended.
 use Rattle.std.specs.Prelude.{ℕ, ⊤}
 use Rattle.ppp_cli.specs.declared.status.Status.{Status}
-use Rattle.ppp_cli.specs.declared.status.Status.TheVariants.{Ok as Fine, BadWords, ReadFault, TooLong, BadLine, Outstanding, WriteFault, Memory, NotBuilt}
+use Rattle.ppp_cli.specs.declared.status.Status.TheVariants.{Ok as Fine, BadWords, ReadFault, TooLong, BadConfig, BadLine, Outstanding, WriteFault, Memory, NotBuilt}
 
 -- the number that the process exits with
 abbrev pub code_of : Status → ℕ
@@ -9,6 +9,7 @@ code_of Fine = 0
 code_of BadWords = 2
 code_of ReadFault = 3
 code_of TooLong = 4
+code_of BadConfig = 5
 code_of (BadLine line) = 6
 code_of (Outstanding step) = 7
 code_of WriteFault = 9
@@ -21,6 +22,7 @@ IsOfText Fine = ⊤
 IsOfText BadWords = ⊥
 IsOfText ReadFault = ⊥
 IsOfText TooLong = ⊥
+IsOfText BadConfig = ⊤
 IsOfText (BadLine line) = ⊤
 IsOfText (Outstanding step) = ⊤
 IsOfText WriteFault = ⊥

@@ -1,7 +1,11 @@
 //! What is replied to a text.
 
-ghost use Rattle.std.specs.Prelude.{◌≡◌, ◌≤◌, length, IfOk, Ok};
-ghost use Rattle.ppp_cli.specs.Reply.{is_built, not_built_line, reply_seen, reply_to_capture, reply_to_command, reply_to_events, reply_to_line, reply_to_replay, says};
+ghost use Rattle.std.specs.Prelude.{◌≡◌, ◌≤◌, ℕ, List, length, IfOk, Ok, Result};
+ghost use Rattle.ppp_cli.specs.Reply.{is_built, is_single, not_built_line, reply_seen, reply_to_capture, reply_to_command, reply_to_events, reply_to_line, reply_to_replay, reply_to_settings, says, says_with};
+ghost use Rattle.ppp_conf.specs.Config.{Settings, config_seen};
+ghost use Rattle.ppp_conf.specs.EndConfig.{end_seen};
+ghost use Rattle.ppp_conf.specs.Refusal.{IsRefusal, Refusal as ConfRefusal};
+ghost use Rattle.ppp_world.specs.Settings.{settings_in as asked_in};
 ghost use Rattle.ppp_cli.specs.Status.{IsOfText};
 ghost use Rattle.ppp_show.specs.Stream.{show_of};
 ghost use Rattle.ppp_cli.specs.declared.input.TheConstants.{MOST_OCTETS};
@@ -9,15 +13,13 @@ ghost use Rattle.ppp_cli.specs.declared.status.Status.TheVariants.{NotBuilt};
 
 use crate::command::Command;
 use crate::status::Status;
+use ppp_conf::{ConfFault, Config, EndConfig, read_config};
 use ppp_io::Memory;
 use ppp_script::{Event, LineWhy, Script, ScriptFault, read_script};
 use ppp_show::{ShowFault, show_stream};
 use ppp_text::part_input;
-use ppp_world::{Replayed, replay};
+use ppp_world::{Refusal, replay};
 use std::alloc::Global;
-
-/// The links that are configured.
-const LINKS: u8 = 1;
 
 /// A status, and what is written with it.
 #[derive(Drop)]
@@ -54,32 +56,69 @@ fn reply_to_capture(alloc: Global, text: &[u8]) -> Result<Reply, Memory>
     }
 }
 
-/// Parts the input at the line `---`, and replays its script.
+/// Parts the input at the line `---`, reads the settings before it, and replays the script behind it.
+#[tactic(auto, unfolding(crate::specs::Reply::reply_to_replay))]
 fn reply_to_replay(alloc: Global, text: &[u8]) -> Result<Reply, Memory>
     requires { length text.now ≤ MOST_OCTETS }
     ensures reply { IfOk result (λ reply. reply_seen reply ≡ reply_to_replay text.now) }
     ensures of_text { IfOk result (λ reply. IsOfText reply.status) }
 {
     let parts = part_input(text);
-    if !is_built(parts.settings) {
-        return refuse_settings(alloc);
+    match read_config(alloc, parts.settings) {
+        Ok(config) => reply_to_config(alloc, &config, parts.script),
+        Err(fault) => refuse_settings(alloc, &fault),
     }
-    match read_script(alloc, parts.script, LINKS) {
-        Ok(script) => reply_to_script(alloc, &script),
+}
+
+/// Replays a script with these settings, if they are built.
+fn reply_to_config(alloc: Global, config: &Config, script: &[u8]) -> Result<Reply, Memory>
+    requires { length script.now ≤ MOST_OCTETS }
+    ensures reply { IfOk result
+        (λ reply. reply_seen reply ≡ reply_to_settings (Ok (config_seen config.now)) script.now) }
+    ensures of_text { IfOk result (λ reply. IsOfText reply.status) }
+{
+    if !is_built(config) {
+        return refuse_unbuilt(alloc);
+    }
+    match read_script(alloc, script, config.links) {
+        Ok(script) => reply_to_script(alloc, config, &script),
         Err(ScriptFault::Refused { line, why }) => refuse_line(alloc, line, why),
         Err(ScriptFault::Memory) => Err(Memory),
     }
 }
 
-/// Whether these settings are built: the one line `version = 1`, ended by LF or by the end of the input.
-fn is_built(settings: &[u8]) -> bool
-    ensures { result ≡ is_built settings.now }
+/// Whether these settings are built: one link, without multilink or a network protocol at either end.
+fn is_built(config: &Config) -> bool
+    ensures { result ≡ is_built (config_seen config.now) }
 {
-    settings == b"version = 1".as_slice() || settings == b"version = 1\n".as_slice()
+    config.links == 1 && is_single(&config.a) && is_single(&config.b)
+}
+
+/// Whether an end has neither multilink nor a network protocol.
+fn is_single(end: &EndConfig) -> bool
+    ensures { result ≡ is_single (end_seen end.now) }
+{
+    end.mrru == 0 && !end.protocols.contains(&true)
+}
+
+/// Refuses settings, with the line that says which key and why.
+fn refuse_settings(alloc: Global, fault: &ConfFault) -> Result<Reply, Memory>
+    ensures reply { (read : Result Settings ConfRefusal) → IsRefusal read fault.now → (script : List ℕ)
+        → IfOk result (λ reply. reply_seen reply ≡ reply_to_settings read script) }
+    ensures of_text { IfOk result (λ reply. IsOfText reply.status) }
+{
+    if let ConfFault::Memory = fault {
+        return Err(Memory);
+    }
+    let text = format!(in alloc; "{fault}\n")?;
+    Ok(Reply {
+        status: Status::BadConfig,
+        octets: text.into_bytes(),
+    })
 }
 
 /// Refuses settings that aren't built yet.
-fn refuse_settings(alloc: Global) -> Result<Reply, Memory>
+fn refuse_unbuilt(alloc: Global) -> Result<Reply, Memory>
     ensures reply { IfOk result (λ reply. reply_seen reply ≡ says NotBuilt not_built_line) }
     ensures of_text { IfOk result (λ reply. IsOfText reply.status) }
 {
@@ -103,19 +142,28 @@ fn refuse_line(alloc: Global, line: u32, why: LineWhy) -> Result<Reply, Memory>
 
 /// Replays a script, and replies with its report; where a step is refused the report is that of the steps before it, and
 /// the line of the refusal follows.
-fn reply_to_script(alloc: Global, script: &Script<Event>) -> Result<Reply, Memory>
-    ensures reply { IfOk result (λ reply. reply_seen reply ≡ reply_to_events (Ok script.now)) }
+fn reply_to_script(alloc: Global, config: &Config, script: &Script<Event>) -> Result<Reply, Memory>
+    ensures reply { IfOk result
+        (λ reply. reply_seen reply ≡ reply_to_events (asked_in (config_seen config.now)) (Ok script.now)) }
     ensures of_text { IfOk result (λ reply. IsOfText reply.status) }
 {
-    let Replayed { report, refused } = replay(alloc, script)?;
-    let mut octets = report;
+    let replayed = replay(alloc, config, script)?;
+    reply_with(alloc, replayed.report, replayed.refused)
+}
+
+/// Replies with a report, and the line of the step that is refused behind it, if one is.
+fn reply_with(alloc: Global, report: Vec<u8>, refused: Option<Refusal>) -> Result<Reply, Memory>
+    ensures reply { IfOk result (λ reply. reply_seen reply ≡ says_with report.items refused) }
+    ensures of_text { IfOk result (λ reply. IsOfText reply.status) }
+{
     let Some(refusal) = refused else {
         return Ok(Reply {
             status: Status::Ok,
-            octets,
+            octets: report,
         });
     };
     let line = format!(in alloc; "{refusal}\n")?;
+    let mut octets = report;
     octets.extend_from_slice(line.as_bytes())?;
     Ok(Reply {
         status: Status::Outstanding(refusal.step),

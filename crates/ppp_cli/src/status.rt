@@ -9,6 +9,8 @@ pub enum Status {
     ReadFault,
     /// The input has more than 1,048,576 octets.
     TooLong,
+    /// The settings are refused.
+    BadConfig,
     /// The line of that number, from 1, is the first that is refused: of the script, or of the capture.
     BadLine(u32),
     /// The step of that number, from 1, would make a span wider than 255.
@@ -34,6 +36,7 @@ impl Status {
             Status::BadWords => 2,
             Status::ReadFault => 3,
             Status::TooLong => 4,
+            Status::BadConfig => 5,
             Status::BadLine(_) => 6,
             Status::Outstanding(_) => 7,
             Status::WriteFault => 9,

@@ -5,8 +5,10 @@ pub mod DottedLemmas
 pub mod EndConfigLemmas
 pub mod EndTableLemmas
 pub mod FieldsLemmas
+pub mod HexLengthLemmas
 pub mod HexTextLemmas
 pub mod ProtocolsLemmas
+pub mod RangesLemmas
 pub mod RefusalLemmas
 pub mod TextLemmas
 pub mod UnknownLemmas

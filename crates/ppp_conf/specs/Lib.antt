@@ -11,6 +11,7 @@ pub mod Form
 pub mod HexText
 pub mod Keys
 pub mod Protocols
+pub mod Ranges
 pub mod Refusal
 pub mod Results
 pub mod Rules

@@ -25,6 +25,7 @@ mod form;
 mod hex_text;
 mod key_path;
 mod keys;
+mod law;
 mod protocols;
 mod rules;
 mod socket_text;
@@ -37,6 +38,7 @@ pub use config_keys::read_config;
 pub use config_text::print_config;
 pub use end_config::EndConfig;
 pub use key_path::KeyPath;
+pub use law::read_in_range;
 pub use socket_text::{MOST_SOCKET, SocketText};
 
 #[cfg(test)]

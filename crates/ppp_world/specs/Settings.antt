@@ -46,5 +46,6 @@ lcp_of_end link s = record {
   acfc = s.acfc;
 }
 
-abbrev pub settings_in : Config → Settings
+-- what both ends ask for on the one link
+unfoldable pub settings_in : Config → Settings
 settings_in c = record { a = lcp_of_end ONLY_LINK c.a; b = lcp_of_end ONLY_LINK c.b }

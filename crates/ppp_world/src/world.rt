@@ -8,7 +8,7 @@ ghost use Rattle.ppp_script.specs.declared.script.TheConstants.{MOST_STEPS};
 ghost use Rattle.ppp_world.specs.Agreement.{agree_at, agree_of, AreOpenedAt};
 ghost use Rattle.ppp_world.specs.Outstanding.{outstanding_at, outstanding_in};
 ghost use Rattle.ppp_world.specs.Run.{shown_at};
-ghost use Rattle.ppp_conf.specs.Config.{seen};
+ghost use Rattle.ppp_conf.specs.Config.{config_seen};
 ghost use Rattle.ppp_world.specs.Settings.{settings_in};
 ghost use Rattle.ppp_world.specs.Step.{moved};
 ghost use Rattle.ppp_world.specs.TwoEnds.{duet_seen, line_of, settings_of, AreKept, AreQueues};
@@ -52,8 +52,9 @@ impl Model for World {
 
 impl World {
     /// Both ends as they begin, with what their settings ask for of LCP, nothing under way and an empty report.
+    #[tactic(auto, unfolding(crate::specs::Settings::settings_in))]
     pub fn new(alloc: Global, config: &Config) -> Result<World, Memory>
-        ensures { IfOk result (λ world. world ≡ world_begun (settings_in (seen config.now))) }
+        ensures { IfOk result (λ world. world ≡ world_begun (settings_in (config_seen config.now))) }
     {
         let a = lcp_table(&config.a, ONLY_LINK);
         let b = lcp_table(&config.b, ONLY_LINK);
