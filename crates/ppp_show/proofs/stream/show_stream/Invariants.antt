@@ -1,6 +1,6 @@
 use Rattle.std.proofs.Common.{◌≡◌, ◌+◌, ◌≤◌, ℕ, List, length}
 use Rattle.ppp_text.specs.Lines.{lines_of}
-use Rattle.ppp_show.specs.HexLine.{behind, octets_from, octets_of_text}
+use Rattle.ppp_show.specs.HexLine.{in_front, octets_from, octets_of_text}
 use Rattle.ppp_show.specs.Shown.{HasShown}
 use Rattle.ppp_show.proofs.stream.show_stream.Given as goal
 
@@ -9,7 +9,7 @@ abbrev pub invariant-lines : goal.invariant-lines
 invariant-lines l = record {
   stream : List ℕ;
   shown : HasShown stream l.shown;
-  read : octets_of_text l.text ≡ behind stream (octets_from l.number (lines_of l.rest));
+  read : octets_of_text l.text ≡ in_front stream (octets_from l.number (lines_of l.rest));
   counted : l.number + length l.rest ≤ length l.text + 1;
 }
 
