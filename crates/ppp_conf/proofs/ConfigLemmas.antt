@@ -9,7 +9,7 @@ use Rattle.ppp_conf.specs.declared.conf_fault.ConfFault.{ConfFault}
 use Rattle.ppp_conf.specs.declared.conf_fault.ConfFault.TheVariants.{Memory, Refused}
 use Rattle.ppp_conf.specs.declared.config.Config.{Config}
 use Rattle.ppp_conf.specs.declared.end_config.EndConfig.{EndConfig}
-use Rattle.ppp_conf.specs.Config.{Settings, IsConfig, all_known, config_of, document_of, end_at, settings_of, toml_of}
+use Rattle.ppp_conf.specs.Config.{Settings, all_known, config_of, document_of, end_at, settings_of, toml_of}
 use Rattle.ppp_conf.specs.EndConfig.{EndSettings, IsEnd, end_seen}
 use Rattle.ppp_conf.specs.Form.{whole}
 use Rattle.ppp_conf.specs.Keys.{Given, key, required}
@@ -71,10 +71,6 @@ read_as read one other same has_read = rw (← same) has_read
 pub refused_as : (result : Result Config ConfFault) (fault given : ConfFault) (read other : Result Settings Refusal) → result ≡ Err fault → fault ≡ given → read ≡ other →
     IsRefusal other given → IfErr result (IsRefusal read)
 refused_as result fault given read other is same reads refused = rw (is, same, reads) refused
-
-pub whole_as : (read other : Result Settings Refusal) (config : Config) → read ≡ other → other ≡ Ok (record { links = config.links; a = end_seen config.a; b = end_seen config.b }) →
-    HasRead IsConfig read config
-whole_as read other config reads is = rw (reads, is) refl
 
 -- a text in UTF-8 that parses
 pub config_of-some : (text : List ℕ) (top : Members) → IsUtf8 text → parse_document text ≡ Some top → config_of text ≡ settings_of (record { prefix = []; members = top })

@@ -1,5 +1,5 @@
 -- Settings: both ends, and what a text reads as.
-use Rattle.std.specs.Prelude.{◌≡◌, ℕ, if◌then◌else◌, List, [], codes, Option, Some, None, Result, Ok}
+use Rattle.std.specs.Prelude.{ℕ, if◌then◌else◌, List, [], codes, Option, Some, None, Result, Ok}
 use Rattle.std.specs.Str.{is_utf8}
 use Rattle.toml.specs.Data.{Members, no_members}
 use Rattle.toml.specs.Parse.{parse_document}
@@ -20,9 +20,6 @@ pub record Settings : Type 0 where
 -- settings as the definitions have them
 abbrev pub config_seen : Config → Settings
 config_seen c = record { links = c.links; a = end_seen c.a; b = end_seen c.b }
-
-abbrev pub IsConfig : Settings → Config → Type 0
-IsConfig settings config = settings ≡ config_seen config
 
 abbrev pub all_known : Option (List ℕ) → Result Unit Refusal
 all_known None = Ok tt

@@ -2,7 +2,7 @@
 
 ghost use Rattle.std.specs.Prelude.{◌≡◌, ◌≤◌, [], Ok, IfOk, IfErr, OnOk};
 ghost use Rattle.toml.specs.View.{table_view};
-ghost use Rattle.ppp_conf.specs.Config.{IsConfig, all_known, config_of, end_at, settings_of};
+ghost use Rattle.ppp_conf.specs.Config.{all_known, config_of, config_seen, end_at, settings_of};
 ghost use Rattle.ppp_conf.specs.EndConfig.{IsEnd};
 ghost use Rattle.ppp_conf.specs.Keys.{keys_seen};
 ghost use Rattle.ppp_conf.specs.Refusal.{HasRead, Reads, IsRefusal};
@@ -21,7 +21,7 @@ use toml::Table;
 /// Reads settings, a TOML text. The first refusal is answered, in the order of the crate's first page; want of memory may
 /// be answered in the place of any.
 pub fn read_config(alloc: Global, text: &[u8]) -> Result<Config, ConfFault>
-    ensures ok { IfOk result (HasRead IsConfig (config_of text.now)) }
+    ensures ok { IfOk result (λ config. config_of text.now ≡ Ok (config_seen config)) }
     ensures err { IfErr result (IsRefusal (config_of text.now)) }
 {
     match toml::table_from_slice(alloc, text) {
@@ -42,8 +42,8 @@ pub fn read_config(alloc: Global, text: &[u8]) -> Result<Config, ConfFault>
 
 /// Reads the settings of a document.
 fn read_document(alloc: Global, top: &Table) -> Result<Config, ConfFault>
-    ensures ok { IfOk result (HasRead IsConfig
-        (settings_of (record { prefix = []; members = table_view top.now }))) }
+    ensures ok { IfOk result (λ config.
+        settings_of (record { prefix = []; members = table_view top.now }) ≡ Ok (config_seen config)) }
     ensures err { IfErr result (IsRefusal
         (settings_of (record { prefix = []; members = table_view top.now }))) }
 {

@@ -1,11 +1,11 @@
-use Rattle.std.proofs.Common.{ℕ, [], codes, Result}
+use Rattle.std.proofs.Common.{◌∙◌, ℕ, [], codes, Result}
 use Rattle.std.proofs.lemmas.Result.{err_from_is_err_and}
 use Rattle.toml.specs.View.{table_view}
 use Rattle.ppp_conf.specs.Config.{end_at}
 use Rattle.ppp_conf.specs.EndConfig.{EndSettings}
 use Rattle.ppp_conf.specs.Keys.{Given}
 use Rattle.ppp_conf.specs.Refusal.{Refusal}
-use Rattle.ppp_conf.proofs.ConfigLemmas.{settings_of-both, both-a_keys, both-b_keys, both-a_rule, both-b_rule, both-read, read_as, refused_as, whole_as}
+use Rattle.ppp_conf.proofs.ConfigLemmas.{settings_of-both, both-a_keys, both-b_keys, both-a_rule, both-b_rule, both-read, read_as, refused_as}
 use Rattle.ppp_conf.proofs.config_keys.read_document.Goals as goal
 
 pub returns-in_err-a-clause-err : goal.returns-in_err-a-clause-err
@@ -60,6 +60,6 @@ returns-clause-ok c =
     let a_of : Result (Result EndSettings Refusal) Refusal = end_at links (codes "a") (codes "a.") top in
     let b_of : Result (Result EndSettings Refusal) Refusal = end_at links (codes "b") (codes "b.") top in
     let reads = settings_of-both top c.in_ok-version.version links c.in_ok-version.ensures.ok c.in_ok-check_known.ensures.ok c.in_ok-links.ensures.ok in
-    whole_as _ _ _ reads
+    reads ∙
     (both-read links a_of b_of c.in_ok-a-2.a c.in_ok-b-2.b (read_as a_of _ _ c.in_ok-a-2.was c.in_ok-a.ensures.ok)
     (read_as b_of _ _ c.in_ok-b-2.was c.in_ok-b.ensures.ok))
