@@ -1,8 +1,7 @@
 -- LCP's rows by the Type, for the code.
-use Rattle.std.proofs.Common.{◌≡◌, ◌≢◌, ℕ, ◌+◌, ◌≤◌, Bool, true, false, List, length, refl, sym, ◌∙◌, ap, arith}
-use Rattle.std.specs.Prelude.{◌==◌, if◌then◌else◌, Option, Some, None, Result, Ok, Err}
+use Rattle.std.proofs.Common.{◌≡◌, ℕ, ◌≤◌, Bool, true, false, List, length, refl, ◌∙◌, ap, arith}
+use Rattle.std.specs.Prelude.{◌==◌, if◌then◌else◌, Option, Some, None, Ok}
 use Rattle.std.specs.Option.{option_map, ok_or}
-use Rattle.ppp_options.specs.Rule.{Rule}
 use Rattle.ppp_options.specs.Rules.{rule_of}
 use Rattle.ppp_lcp.specs.LcpKind.{kind_of, kind_number, read_kind}
 use Rattle.ppp_lcp.specs.LcpLaw.{kind_is_rule}

@@ -1,6 +1,6 @@
 -- LCP's rows owe what rows owe, and its Magic-Numbers differ.
-use Rattle.std.proofs.Common.{◌≡◌, ◌≢◌, ℕ, ◌+◌, ◌^◌, ◌<◌, ◌≤◌, Bool, true, false, not, ◌&&◌, ◌||◌, List, [], ◌∷◌, length, take, refl, sym, ◌∙◌, ap, subst, arith}
-use Rattle.std.specs.Prelude.{◌==◌, nat_le, nat_lt, if◌then◌else◌, Option, Some, None, IsTrue, bit_or}
+use Rattle.std.proofs.Common.{◌≡◌, ℕ, ◌+◌, ◌≤◌, Bool, true, false, not, ◌&&◌, List, [], ◌∷◌, length, take, refl, sym, ◌∙◌, subst, arith}
+use Rattle.std.specs.Prelude.{◌==◌, nat_le, if◌then◌else◌, Option, Some, None}
 use Rattle.std.specs.Bool.{then_some}
 use Rattle.std.specs.Option.{option_map}
 use Rattle.std.specs.Str.{bytes_eq}
@@ -10,17 +10,15 @@ use Rattle.ppp_packet.specs.ConfigOption.{ConfigOption}
 use Rattle.ppp_packet.specs.Packet.{two_octets}
 use Rattle.ppp_packet.specs.DiscClass.{is_good_disc}
 use Rattle.ppp_auto.specs.Taken.{four_octets}
-use Rattle.ppp_options.specs.Differs.{Differs}
 use Rattle.ppp_options.specs.DiffersLaw.{TakesOthers, allowed-differs}
-use Rattle.ppp_options.specs.Number.{number, is_within, is_new, number_of, pick}
+use Rattle.ppp_options.specs.Number.{number, is_within, is_new, pick}
 use Rattle.ppp_options.specs.NumberLaw.{number-two_octets, two_octets-within}
 use Rattle.ppp_options.specs.NumberRuleLaw.{number_is_rule, drawn-sent}
 use Rattle.ppp_options.specs.Rule.{IsRule}
 use Rattle.ppp_options.specs.RuleLaw.{and-both, both-and}
 use Rattle.ppp_options.specs.Rules.{IsTable, Sendable, Allows}
-use Rattle.ppp_lcp.specs.LcpKind.{kind_number}
 use Rattle.ppp_lcp.specs.LcpRanges.{is_mrru, are_classes, is_disc_body, is_classes_body}
-use Rattle.ppp_lcp.specs.LcpTable.{lcp_rule, mru_rule, accm_after, accm_rule, magic_rule, flag_rule, pfc_rule, acfc_rule, mrru_rule, short_rule, disc_body, disc_rule, is_link_disc, link_disc_rule, is_own_form, own_code, has_classes, nearest, better_form, classes_rule, lcp_rules, is_multilink, asks_short}
+use Rattle.ppp_lcp.specs.LcpTable.{FitsMagic, lcp_rule, mru_rule, accm_after, accm_rule, magic_rule, flag_rule, mrru_rule, disc_body, disc_rule, is_link_disc, link_disc_rule, is_own_form, own_code, has_classes, better_form, classes_rule, lcp_rules, is_multilink, asks_short}
 use Rattle.ppp_lcp.specs.declared.lcp_kind.LcpKind.{LcpKind}
 use Rattle.ppp_lcp.specs.declared.lcp_kind.LcpKind.TheVariants.{Mru, Accm, Magic, Pfc, Acfc, Mrru, Short, Disc, LinkDisc, Classes}
 use Rattle.ppp_lcp.specs.declared.lcp_table.LcpTable.{LcpTable}
@@ -317,5 +315,5 @@ lcp_is_table t = record {
 takes_others : (t : LcpTable) → TakesOthers (lcp_rules t) 5 4
 takes_others t = record { takes = λ own body h. h }
 
-pub lcp_fits : (t : LcpTable) (own theirs : List ConfigOption) → Sendable (lcp_rules t) own → Allows (lcp_rules t) own theirs → Differs 5 4 own theirs
+pub lcp_fits : (t : LcpTable) (own theirs : List ConfigOption) → Sendable (lcp_rules t) own → Allows (lcp_rules t) own theirs → FitsMagic own theirs
 lcp_fits t own theirs sends allowed = allowed-differs (lcp_rules t) 5 4 (takes_others t) own theirs allowed

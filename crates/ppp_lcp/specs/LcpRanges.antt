@@ -1,5 +1,5 @@
 -- The ranges of what an end is set to, and the bodies with a form of their own.
-use Rattle.std.specs.Prelude.{ℕ, Bool, true, false, not, ◌&&◌, ◌||◌, ◌==◌, nat_le, List, [], ◌∷◌, length}
+use Rattle.std.specs.Prelude.{ℕ, Bool, true, false, ◌&&◌, ◌||◌, ◌==◌, nat_le, List, [], ◌∷◌, length}
 use Rattle.ppp_packet.specs.DiscClass.{is_good_disc}
 use Rattle.ppp_lcp.specs.declared.lcp_table.TheConstants.{LEAST_MRRU, MOST_MRRU, LONG_CODE, SHORT_CODE, MOST_LONG_CLASSES, MOST_SHORT_CLASSES}
 
