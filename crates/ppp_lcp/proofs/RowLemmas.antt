@@ -34,7 +34,8 @@ read-ok : (found : Option LcpKind) (e : UnknownKind) (kind : LcpKind) → Ok kin
 read-ok None e kind h = cc
 read-ok (Some k) e kind h = cc
 
-pub rule-read : (t : LcpTable) (n : ℕ) (kind : LcpKind) → Ok kind ≡ read_kind n → rule_of n (lcp_rules t) ≡ Some (lcp_rule t kind)
+pub rule-read : (t : LcpTable) (n : ℕ) (kind : LcpKind) → Ok kind ≡ read_kind n →
+    rule_of n (lcp_rules t) ≡ Some (lcp_rule t kind)
 rule-read t n kind h = rule-of t n ∙ ap (option_map (lcp_rule t)) (read-ok (kind_of n) _ kind h)
 
 row-octets : (t : LcpTable) (kind : LcpKind) → (lcp_rule t kind).most ≤ 34
@@ -50,7 +51,8 @@ row-octets t LinkDisc = omega arith
 row-octets t Classes = omega arith
 
 -- what stands after a Nak can be kept
-pub after-fits : (t : LcpTable) (kind : LcpKind) (last nak : List ℕ) (word : ℕ) → (lcp_rule t kind).is_sent last ≡ true → length ((lcp_rule t kind).after last nak word) ≤ 32
+pub after-fits : (t : LcpTable) (kind : LcpKind) (last nak : List ℕ) (word : ℕ) →
+    (lcp_rule t kind).is_sent last ≡ true → length ((lcp_rule t kind).after last nak word) ≤ 32
 after-fits t kind last nak word sent =
     let is = kind_is_rule t kind in
     let same = is.after_long last nak word sent in

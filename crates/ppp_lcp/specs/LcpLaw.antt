@@ -40,7 +40,8 @@ within-if-long : (least most low high : ℕ) (last nak : List ℕ) → is_within
 within-if-long least most low high last nak h = grind (arith, nat_tests)
 
 -- MRU
-mru-first : (mru : ℕ) (body : List ℕ) → 128 ≤ mru → mru ≤ 8192 → then_some (not (mru == 1500)) (two_octets mru) ≡ Some body → is_within 2 128 8192 body ≡ true
+mru-first : (mru : ℕ) (body : List ℕ) → 128 ≤ mru → mru ≤ 8192 → then_some (not (mru == 1500))
+    (two_octets mru) ≡ Some body → is_within 2 128 8192 body ≡ true
 mru-first mru body low high e =
     let asked = then-some (not (mru == 1500)) (two_octets mru) body e in
     subst (λ (b : List ℕ). is_within 2 128 8192 b ≡ true) asked.1 (two_octets-within 128 8192 mru (omega arith) low high)
@@ -62,7 +63,8 @@ mru_is_rule t = record {
 }
 
 -- ACCM
-accm-first : (asked : Bool) (accm : ℕ) (body : List ℕ) → then_some asked (four_octets accm) ≡ Some body → (length body == 4) ≡ true
+accm-first : (asked : Bool) (accm : ℕ) (body : List ℕ) → then_some asked (four_octets accm) ≡ Some body →
+    (length body == 4) ≡ true
 accm-first asked accm body e =
     let one = then-some asked (four_octets accm) body e in subst (λ (b : List ℕ). (length b == 4) ≡ true) one.1 refl
 
@@ -89,7 +91,8 @@ accm_is_rule t = record {
 }
 
 -- Magic-Number
-magic-first : (asked : Bool) (word : ℕ) (body : List ℕ) → then_some asked (four_octets (pick word 0)) ≡ Some body → is_new 4 0 body ≡ true
+magic-first : (asked : Bool) (word : ℕ) (body : List ℕ) → then_some asked (four_octets (pick word 0)) ≡ Some body →
+    is_new 4 0 body ≡ true
 magic-first asked word body e =
     let one = then-some asked (four_octets (pick word 0)) body e in subst (λ (b : List ℕ). is_new 4 0 b ≡ true) one.1 (drawn-sent word 0)
 
@@ -114,7 +117,8 @@ flag_is_rule kind set known = record {
 }
 
 -- MRRU
-mrru-first : (mrru : ℕ) (body : List ℕ) → is_mrru mrru ≡ true → then_some (not (mrru == 0)) (two_octets mrru) ≡ Some body → is_within 2 1500 8192 body ≡ true
+mrru-first : (mrru : ℕ) (body : List ℕ) → is_mrru mrru ≡ true → then_some (not (mrru == 0))
+    (two_octets mrru) ≡ Some body → is_within 2 1500 8192 body ≡ true
 mrru-first mrru body ranged e =
     let asked = then-some (not (mrru == 0)) (two_octets mrru) body e in
     let not_zero : not (mrru == 0) ≡ true = asked.0 in
@@ -125,7 +129,8 @@ mrru-first mrru body ranged e =
 set-at : (b : Bool) (n most : ℕ) → b ≡ true → n ≡ most → (b && nat_le n most) ≡ true
 set-at b n most h e = grind (arith, nat_tests)
 
-mrru-set-first : (mrru : ℕ) (body : List ℕ) → is_mrru mrru ≡ true → then_some (not (mrru == 0)) (two_octets mrru) ≡ Some body → (not (mrru == 0) && nat_le (number body) mrru) ≡ true
+mrru-set-first : (mrru : ℕ) (body : List ℕ) → is_mrru mrru ≡ true → then_some (not (mrru == 0))
+    (two_octets mrru) ≡ Some body → (not (mrru == 0) && nat_le (number body) mrru) ≡ true
 mrru-set-first mrru body ranged e =
     let asked = then-some (not (mrru == 0)) (two_octets mrru) body e in
     let high : mrru ≤ 8192 = grind (arith, nat_tests) in
@@ -170,7 +175,8 @@ disc-own t =
     let size : length (take t.disc.size t.disc.address) ≡ t.disc.size = length-take-le t.disc.size t.disc.address (let whole = t.disc.is_address.whole in let within = t.disc.is_address.within in omega arith) in
     rw size t.is_disc
 
-disc-first : (t : LcpTable) (asked : Bool) (body : List ℕ) → then_some asked (disc_body t) ≡ Some body → (is_disc_body body ≡ true) × (asked ≡ true) × (disc_body t ≡ body)
+disc-first : (t : LcpTable) (asked : Bool) (body : List ℕ) → then_some asked (disc_body t) ≡ Some body →
+    (is_disc_body body ≡ true) × (asked ≡ true) × (disc_body t ≡ body)
 disc-first t asked body e =
     let one = then-some asked (disc_body t) body e in (subst (λ (b : List ℕ). is_disc_body b ≡ true) one.1 (disc-own t), one.0, one.1)
 
@@ -216,7 +222,8 @@ form-good : (short : Bool) (classes : ℕ) (count : ℕ) → are_classes short c
 form-good true classes count h low high = grind (arith, nat_tests)
 form-good false classes count h low high = grind (arith, nat_tests)
 
-if-passes : (p : List ℕ → Bool) (b : Bool) (x y : List ℕ) → (b ≡ true → p x ≡ true) → p y ≡ true → p (if b then x else y) ≡ true
+if-passes : (p : List ℕ → Bool) (b : Bool) (x y : List ℕ) → (b ≡ true → p x ≡ true) → p y ≡ true →
+    p (if b then x else y) ≡ true
 if-passes p true x y h k = h refl
 if-passes p false x y h k = k
 
@@ -226,14 +233,16 @@ not-zero n h = grind (arith, nat_tests)
 same-number : (n : ℕ) → (n == n) ≡ true
 same-number n = grind (arith, nat_tests)
 
-own-form : (t : LcpTable) (code count : ℕ) → code ≡ own_code t → 1 ≤ count → count ≤ t.classes → is_own_form t (code ∷ count ∷ []) ≡ true
+own-form : (t : LcpTable) (code count : ℕ) → code ≡ own_code t → 1 ≤ count → count ≤ t.classes →
+    is_own_form t (code ∷ count ∷ []) ≡ true
 own-form t code count same low high =
     let a : (code == own_code t) ≡ true = rw same (same-number (own_code t)) in
     let b : nat_le 1 count ≡ true = grind (arith, nat_tests) in
     let c : nat_le count t.classes ≡ true = grind (arith, nat_tests) in
     rw (a, b) c
 
-form-first : (t : LcpTable) (body : List ℕ) → then_some (has_classes t) (own_code t ∷ t.classes ∷ []) ≡ Some body → (is_classes_body body ≡ true) × ((has_classes t && is_own_form t body) ≡ true)
+form-first : (t : LcpTable) (body : List ℕ) → then_some (has_classes t) (own_code t ∷ t.classes ∷ []) ≡ Some body →
+    (is_classes_body body ≡ true) × ((has_classes t && is_own_form t body) ≡ true)
 form-first t body e =
     let asked = then-some (has_classes t) (own_code t ∷ t.classes ∷ []) body e in
     let some = and-both (not (t.classes == 0)) (is_multilink t) asked.0 in
@@ -261,7 +270,8 @@ own-good t (code ∷ count ∷ []) h =
     rw same (form-good t.short t.classes count t.are_classes low high)
 own-good t (code ∷ count ∷ more ∷ rest) h = cc
 
-form-after : (own : List ℕ → Bool) (last nak : List ℕ) → ((body : List ℕ) → own body ≡ true → is_classes_body body ≡ true) → is_classes_body last ≡ true →
+form-after : (own : List ℕ → Bool) (last nak : List ℕ) →
+    ((body : List ℕ) → own body ≡ true → is_classes_body body ≡ true) → is_classes_body last ≡ true →
     is_classes_body (if own nak then nak else last) ≡ true
 form-after own last nak good h = if-passes is_classes_body (own nak) nak last (good nak) h
 
@@ -315,5 +325,6 @@ lcp_is_table t = record {
 takes_others : (t : LcpTable) → TakesOthers (lcp_rules t) 5 4
 takes_others t = record { takes = λ own body h. h }
 
-pub lcp_fits : (t : LcpTable) (own theirs : List ConfigOption) → Sendable (lcp_rules t) own → Allows (lcp_rules t) own theirs → FitsMagic own theirs
+pub lcp_fits : (t : LcpTable) (own theirs : List ConfigOption) → Sendable (lcp_rules t) own →
+    Allows (lcp_rules t) own theirs → FitsMagic own theirs
 lcp_fits t own theirs sends allowed = allowed-differs (lcp_rules t) 5 4 (takes_others t) own theirs allowed

@@ -17,8 +17,12 @@ abbrev pub is_disc_body : List ℕ → Bool
 is_disc_body [] = false
 is_disc_body (class ∷ address) = is_good_disc class (length address)
 
+-- one class at least
+abbrev pub is_count : ℕ → ℕ → Bool
+is_count most count = nat_le 1 count && nat_le count most
+
 -- the body of the header's form: its code and a count of classes that it has room for
 abbrev pub is_classes_body : List ℕ → Bool
 is_classes_body (code ∷ count ∷ []) =
-    nat_le 1 count && (((code == LONG_CODE) && nat_le count MOST_LONG_CLASSES) || ((code == SHORT_CODE) && nat_le count MOST_SHORT_CLASSES))
+    ((code == LONG_CODE) && is_count MOST_LONG_CLASSES count) || ((code == SHORT_CODE) && is_count MOST_SHORT_CLASSES count)
 is_classes_body body = false

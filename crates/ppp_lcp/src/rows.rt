@@ -21,13 +21,14 @@ ghost use Rattle.ppp_lcp.specs.declared.lcp_table.LcpTable.{LcpTable};
 
 use crate::lcp_kind::LcpKind;
 use crate::lcp_table::{
-    DEFAULT_ACCM, DEFAULT_MRU, FORM_OCTETS, LEAST_MRRU, LEAST_MRU, LONG_CODE, LcpTable, MOST_LONG_CLASSES,
-    MOST_MRRU, MOST_MRU, MOST_SHORT_CLASSES, SHORT_CODE,
+    DEFAULT_ACCM, DEFAULT_MRU, FORM_OCTETS, LEAST_MRRU, LEAST_MRU, LONG_CODE, LcpTable,
+    MOST_LONG_CLASSES, MOST_MRRU, MOST_MRU, MOST_SHORT_CLASSES, SHORT_CODE,
 };
 use ppp_auto::{OptionTable, Verdict};
 use ppp_options::{
-    OCTETS_U16, OCTETS_U32, OptionRules, first_list, is_new_u32, is_within_u16, list_after_nak, list_after_reject,
-    number_of_u32, number_taken, number_u16, number_u32, octets_u16, octets_u32, pick,
+    OCTETS_U16, OCTETS_U32, OptionRules, first_list, is_new_u32, is_within_u16, list_after_nak,
+    list_after_reject, number_of_u32, number_taken, number_u16, number_u32, octets_u16, octets_u32,
+    pick,
 };
 use ppp_packet::{DiscClass, MOST_ADDRESS, Opt, OptList, OptRef, Options};
 
@@ -225,7 +226,9 @@ impl LcpTable {
     fn is_own_form(&self, body: &[u8]) -> bool
         ensures { result ≡ spec.is_own_form self.now body.now }
     {
-        body.len() == FORM_OCTETS && body[0] == self.own_code() && (1..=self.classes).contains(&body[1])
+        body.len() == FORM_OCTETS
+            && body[0] == self.own_code()
+            && (1..=self.classes).contains(&body[1])
     }
 
     /// The option of the own endpoint discriminator.

@@ -48,5 +48,6 @@ ipv6_is_table own ask = record { ascending = refl; each = (is_rule own ask, tt);
 takes_others : (own : ℕ) (ask : Bool) → TakesOthers (ipv6_rules own ask) 1 8
 takes_others own ask = record { takes = λ mine body h. h }
 
-pub ipv6_fits : (own : ℕ) (ask : Bool) (mine theirs : List ConfigOption) → Sendable (ipv6_rules own ask) mine → Allows (ipv6_rules own ask) mine theirs → FitsIdentifier mine theirs
+pub ipv6_fits : (own : ℕ) (ask : Bool) (mine theirs : List ConfigOption) → Sendable (ipv6_rules own ask) mine →
+    Allows (ipv6_rules own ask) mine theirs → FitsIdentifier mine theirs
 ipv6_fits own ask mine theirs sends allowed = allowed-differs (ipv6_rules own ask) 1 8 (takes_others own ask) mine theirs allowed

@@ -14,8 +14,8 @@ ghost use Rattle.ppp_ncp.specs.declared.ipv6_table.TheConstants.{IDENTIFIER};
 
 use ppp_auto::{OptionTable, Verdict};
 use ppp_options::{
-    OCTETS_U64, OptionRules, first_list, is_new_u64, list_after_nak, list_after_reject, number_of_u64,
-    number_u64, octets_u64, pick64,
+    OCTETS_U64, OptionRules, first_list, is_new_u64, list_after_nak, list_after_reject,
+    number_of_u64, number_u64, octets_u64, pick64,
 };
 use ppp_packet::{Opt, OptList, OptRef, Options};
 
