@@ -1,4 +1,4 @@
--- BACP's table: the Favored-Peer number (RFC 2125 section 5.1), which each list has to have.
+-- BACP's table: the Favored-Peer number (RFC 2125), which each list has to have.
 use Rattle.std.specs.Prelude.{ℕ, ◌^◌, Bool, true, not, ◌&&◌, ◌==◌, nat_lt, List, [], ◌∷◌, Some}
 use Rattle.ppp_packet.specs.ConfigOption.{ConfigOption}
 use Rattle.ppp_auto.specs.Taken.{four_octets}

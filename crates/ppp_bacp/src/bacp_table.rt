@@ -1,4 +1,4 @@
-//! BACP's options (RFC 2125 section 5.1).
+//! BACP's options (RFC 2125).
 
 ghost use Rattle.std.specs.Prelude.{◌≡◌, ◌<◌, ◌↔◌, false, refl, IsTrue};
 ghost use Rattle.ppp_packet.specs.Options.{option_with};
@@ -21,7 +21,7 @@ use ppp_options::{
 };
 use ppp_packet::{Opt, OptList, OptRef, Options};
 
-/// The Type of a Favored-Peer number (RFC 2125 section 5.1).
+/// The Type of a Favored-Peer number (RFC 2125).
 pub const FAVORED_PEER: u8 = 1;
 
 /// What an end asks for of BACP.

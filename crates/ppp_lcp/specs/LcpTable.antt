@@ -132,7 +132,7 @@ disc_rule t = record {
   after = λ last nak word. last;
 }
 
--- Link-Discriminator (RFC 2125 section 6.1)
+-- Link-Discriminator (RFC 2125)
 abbrev pub is_link_disc : Option ℕ → List ℕ → Bool
 is_link_disc None body = false
 is_link_disc (Some n) body = bytes_eq body (two_octets n)

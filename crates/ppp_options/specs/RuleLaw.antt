@@ -28,7 +28,7 @@ rule-is (x ∷ xs) kind r each e =
       | inr later ↦ rule-is xs kind r each.1 later
     ]
 
-rule-kind : (rs : List Rule) (kind : ℕ) (r : Rule) → rule_of kind rs ≡ Some r → r.kind ≡ kind
+pub rule-kind : (rs : List Rule) (kind : ℕ) (r : Rule) → rule_of kind rs ≡ Some r → r.kind ≡ kind
 rule-kind [] kind r e = cc
 rule-kind (x ∷ xs) kind r e = let rest = rule-kind xs kind r in grind (arith, nat_tests)
 
@@ -306,7 +306,7 @@ good-verdict true true better = (λ e. refl, λ e. refl)
 good-verdict true false better = (λ e. cc, λ e. cc)
 good-verdict false good better = (λ e. cc, λ e. cc)
 
-bad-verdict : (known good : Bool) (better found : ConfigOption) →
+pub bad-verdict : (known good : Bool) (better found : ConfigOption) →
     (if not known then Unknown else if good then Good else Bad better) ≡ Bad found → better ≡ found
 bad-verdict true true better found e = cc
 bad-verdict true false better found e = cc
