@@ -1,6 +1,9 @@
--- BACP's table: the Favored-Peer number (RFC 2125 section 5.1), which each list has to have.
+-- BACP's table: the Favored-Peer number (RFC 2125), which each list has to have.
 use Rattle.std.specs.Prelude.{ℕ, ◌^◌, Bool, true, not, ◌&&◌, ◌==◌, nat_lt, List, [], ◌∷◌, Some}
+use Rattle.ppp_packet.specs.ConfigOption.{ConfigOption}
 use Rattle.ppp_auto.specs.Taken.{four_octets}
+use Rattle.ppp_options.specs.Differs.{Differs}
+use Rattle.ppp_options.specs.declared.number.TheConstants.{OCTETS_U32}
 use Rattle.ppp_options.specs.NumberRule.{number_rule}
 use Rattle.ppp_options.specs.Rule.{Rule}
 use Rattle.ppp_bacp.specs.declared.bacp_table.TheConstants.{FAVORED_PEER}
@@ -14,3 +17,7 @@ favored_rule favored = number_rule FAVORED_PEER true (λ word. Some (four_octets
 
 abbrev pub bacp_rules : ℕ → List Rule
 bacp_rules favored = favored_rule favored ∷ []
+
+-- Two lists fit where they don't have the same number.
+abbrev pub FitsFavored : List ConfigOption → List ConfigOption → Type 0
+FitsFavored = Differs FAVORED_PEER OCTETS_U32

@@ -1,17 +1,17 @@
-//! BACP's options (RFC 2125 section 5.1).
+//! BACP's options (RFC 2125).
 
 ghost use Rattle.std.specs.Prelude.{◌≡◌, ◌<◌, ◌↔◌, false, refl, IsTrue};
 ghost use Rattle.ppp_packet.specs.Options.{option_with};
 ghost use Rattle.ppp_packet.specs.Proto.{proto_number};
 ghost use Rattle.ppp_packet.specs.declared.proto.Proto.TheVariants.{Bacp};
 ghost use Rattle.ppp_auto.specs.Taken.{four_octets};
-ghost use Rattle.ppp_options.specs.Differs.{Differs};
 ghost use Rattle.ppp_options.specs.DiffersLaw.{differs-both_ways};
 ghost use Rattle.ppp_options.specs.Number.{number_of, pick};
+ghost use Rattle.ppp_options.specs.declared.number.TheConstants.{OCTETS_U32};
 ghost use Rattle.ppp_options.specs.RuleLaw.{rules_lawful};
 ghost use Rattle.ppp_options.specs.Rules.{table_by, Sendable, IsUnknown, Allows};
 ghost use Rattle.ppp_bacp.specs.BacpLaw.{bacp_is_table, bacp_fits};
-ghost use Rattle.ppp_bacp.specs.BacpTable.{is_favored, bacp_rules};
+ghost use Rattle.ppp_bacp.specs.BacpTable.{FitsFavored, is_favored, bacp_rules};
 ghost use Rattle.ppp_bacp.specs.declared.bacp_table.TheConstants.{FAVORED_PEER};
 
 use ppp_auto::{OptionTable, Verdict};
@@ -21,7 +21,7 @@ use ppp_options::{
 };
 use ppp_packet::{Opt, OptList, OptRef, Options};
 
-/// The Type of a Favored-Peer number (RFC 2125 section 5.1).
+/// The Type of a Favored-Peer number (RFC 2125).
 pub const FAVORED_PEER: u8 = 1;
 
 /// What an end asks for of BACP.
@@ -75,7 +75,7 @@ impl OptionTable for BacpTable {
 
     ghost allows = { λ t. Allows (bacp_rules t.favored) };
 
-    ghost compat = { Differs 1 4 };
+    ghost compat = { FitsFavored };
 
     fn initial(&self, word: u64) -> OptList {
         first_list(self, word)
@@ -111,8 +111,8 @@ impl OptionTable for BacpTable {
         0
     }
 
-    ghost lawful = { λ t. rules_lawful false (bacp_rules t.favored) (λ mine. 0) (Differs 1 4)
-        (bacp_is_table t.favored t.is_favored) (bacp_fits t.favored) (differs-both_ways 1 4) };
+    ghost lawful = { λ t. rules_lawful false (bacp_rules t.favored) (λ mine. 0) FitsFavored
+        (bacp_is_table t.favored t.is_favored) (bacp_fits t.favored) (differs-both_ways FAVORED_PEER OCTETS_U32) };
 
     ghost extends = { λ t. refl };
 }
@@ -128,7 +128,7 @@ pub fn favoured(mine: u32, peer: u32) -> bool
 /// A Favored-Peer number drawn from a word, which isn't the own one.
 fn drawn(own: &OptList, word: u64) -> Opt
     ensures { result ≡ option_with FAVORED_PEER
-        (four_octets (pick word (number_of FAVORED_PEER 4 own.now))) }
+        (four_octets (pick word (number_of FAVORED_PEER OCTETS_U32 own.now))) }
 {
     Opt::new(
         FAVORED_PEER,

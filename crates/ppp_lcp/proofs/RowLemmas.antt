@@ -1,8 +1,7 @@
 -- LCP's rows by the Type, for the code.
-use Rattle.std.proofs.Common.{◌≡◌, ◌≢◌, ℕ, ◌+◌, ◌≤◌, Bool, true, false, List, length, refl, sym, ◌∙◌, ap, arith}
-use Rattle.std.specs.Prelude.{◌==◌, if◌then◌else◌, Option, Some, None, Result, Ok, Err}
+use Rattle.std.proofs.Common.{◌≡◌, ℕ, ◌≤◌, Bool, true, false, List, length, refl, ◌∙◌, ap, arith}
+use Rattle.std.specs.Prelude.{◌==◌, if◌then◌else◌, Option, Some, None, Ok}
 use Rattle.std.specs.Option.{option_map, ok_or}
-use Rattle.ppp_options.specs.Rule.{Rule}
 use Rattle.ppp_options.specs.Rules.{rule_of}
 use Rattle.ppp_lcp.specs.LcpKind.{kind_of, kind_number, read_kind}
 use Rattle.ppp_lcp.specs.LcpLaw.{kind_is_rule}
@@ -35,7 +34,8 @@ read-ok : (found : Option LcpKind) (e : UnknownKind) (kind : LcpKind) → Ok kin
 read-ok None e kind h = cc
 read-ok (Some k) e kind h = cc
 
-pub rule-read : (t : LcpSettings) (n : ℕ) (kind : LcpKind) → Ok kind ≡ read_kind n → rule_of n (lcp_rules t) ≡ Some (lcp_rule t kind)
+pub rule-read : (t : LcpSettings) (n : ℕ) (kind : LcpKind) → Ok kind ≡ read_kind n →
+    rule_of n (lcp_rules t) ≡ Some (lcp_rule t kind)
 rule-read t n kind h = rule-of t n ∙ ap (option_map (lcp_rule t)) (read-ok (kind_of n) _ kind h)
 
 row-octets : (t : LcpSettings) (kind : LcpKind) → (lcp_rule t kind).most ≤ 34
@@ -51,7 +51,8 @@ row-octets t LinkDisc = omega arith
 row-octets t Classes = omega arith
 
 -- what stands after a Nak can be kept
-pub after-fits : (t : LcpSettings) → IsRanged t → (kind : LcpKind) (last nak : List ℕ) (word : ℕ) → (lcp_rule t kind).is_sent last ≡ true → length ((lcp_rule t kind).after last nak word) ≤ 32
+pub after-fits : (t : LcpSettings) → IsRanged t → (kind : LcpKind) (last nak : List ℕ) (word : ℕ) →
+    (lcp_rule t kind).is_sent last ≡ true → length ((lcp_rule t kind).after last nak word) ≤ 32
 after-fits t ranged kind last nak word sent =
     let is = kind_is_rule t ranged kind in
     let same = is.after_long last nak word sent in

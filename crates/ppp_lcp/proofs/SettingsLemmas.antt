@@ -1,5 +1,5 @@
 -- Lists that are asked for keep to the settings.
-use Rattle.std.proofs.Common.{◌≡◌, ℕ, ◌≤◌, Bool, true, false, not, ◌&&◌, List, [], ◌∷◌, ◌⊎◌, inl, inr, refl, sym, ◌∙◌, arith}
+use Rattle.std.proofs.Common.{◌≡◌, ℕ, ◌≤◌, Bool, true, false, not, List, [], ◌∷◌, ◌⊎◌, inl, inr, refl, sym, arith}
 use Rattle.std.specs.Prelude.{◌==◌, nat_le, nat_eq, if◌then◌else◌, Option, Some, None}
 use Rattle.std.specs.List.{list_all}
 use Rattle.std.specs.Option.{option_map}
@@ -17,10 +17,12 @@ use Rattle.ppp_lcp.specs.LcpTable.{lcp_rules, is_multilink, disc_body, is_link_d
 use Rattle.ppp_lcp.specs.Settings.{KeepsSettings}
 use Rattle.ppp_lcp.specs.LcpSettings.{LcpSettings}
 
-found-here : (rs : List Rule) (kind : ℕ) (o : ConfigOption) (body : List ℕ) → (o.kind ≡ kind) × (o.body ≡ body) → is_set rs o ≡ true → is_set_by (rule_of kind rs) body ≡ true
+found-here : (rs : List Rule) (kind : ℕ) (o : ConfigOption) (body : List ℕ) → (o.kind ≡ kind) × (o.body ≡ body) →
+    is_set rs o ≡ true → is_set_by (rule_of kind rs) body ≡ true
 found-here rs kind o body same h = rw (same.0, same.1) at h
 
-head-or-tail : (b : Bool) (body found : List ℕ) (rest : Option (List ℕ)) → (if b then Some body else rest) ≡ Some found → ((b ≡ true) × (body ≡ found)) ⊎ (rest ≡ Some found)
+head-or-tail : (b : Bool) (body found : List ℕ) (rest : Option (List ℕ)) →
+    (if b then Some body else rest) ≡ Some found → ((b ≡ true) × (body ≡ found)) ⊎ (rest ≡ Some found)
 head-or-tail true body found rest e = inl (refl, cc)
 head-or-tail false body found rest e = inr e
 
@@ -28,7 +30,8 @@ same-kind : (a b : ℕ) → nat_eq a b ≡ true → a ≡ b
 same-kind a b h = grind (arith, nat_tests)
 
 -- an option that is found is one that the settings give
-pub found-set : (rs : List Rule) (kind : ℕ) (list : List ConfigOption) (body : List ℕ) → list_all (is_set rs) list ≡ true → find_kind kind list ≡ Some body → is_set_by (rule_of kind rs) body ≡ true
+pub found-set : (rs : List Rule) (kind : ℕ) (list : List ConfigOption) (body : List ℕ) →
+    list_all (is_set rs) list ≡ true → find_kind kind list ≡ Some body → is_set_by (rule_of kind rs) body ≡ true
 found-set rs kind [] body all e = cc
 found-set rs kind (o ∷ os) body all e =
     let both = and-both (is_set rs o) (list_all (is_set rs) os) all in

@@ -1,6 +1,6 @@
 -- What a list of LCP's options grants (RFC 1661 section 6): of each Type the first option with its right Length.
-use Rattle.std.specs.Prelude.{ℕ, Bool, false, ◌&&◌, ◌==◌, if◌then◌else◌, List, [], ◌∷◌, take, Option, Some, None, is_some}
-use Rattle.std.specs.Option.{option_map, unwrap_or}
+use Rattle.std.specs.Prelude.{ℕ, Bool, ◌&&◌, ◌==◌, if◌then◌else◌, List, [], ◌∷◌, take, Option, Some, None, is_some}
+use Rattle.std.specs.Option.{option_map}
 use Rattle.ppp_packet.specs.ConfigOption.{ConfigOption}
 use Rattle.ppp_packet.specs.declared.disc.Disc.{Disc}
 use Rattle.ppp_options.specs.Number.{number, body_of}
@@ -8,7 +8,7 @@ use Rattle.ppp_lcp.specs.LcpKind.{kind_number}
 use Rattle.ppp_lcp.specs.LcpRanges.{is_disc_body}
 use Rattle.ppp_lcp.specs.declared.lcp_kind.LcpKind.{LcpKind}
 use Rattle.ppp_lcp.specs.declared.lcp_kind.LcpKind.TheVariants as kind
-use Rattle.ppp_lcp.specs.declared.lcp_table.TheConstants.{SHORT_CODE}
+use Rattle.ppp_lcp.specs.declared.lcp_table.TheConstants.{FORM_OCTETS, SHORT_CODE}
 
 -- a granted number of that many octets, if there is one
 abbrev pub granted : LcpKind → ℕ → List ConfigOption → Option ℕ
@@ -24,7 +24,7 @@ form_in (Some (code ∷ count ∷ [])) = Some (code, count)
 form_in body = None
 
 abbrev pub granted_form : List ConfigOption → Option (ℕ × ℕ)
-granted_form list = form_in (body_of (kind_number kind.Classes) 2 list)
+granted_form list = form_in (body_of (kind_number kind.Classes) FORM_OCTETS list)
 
 -- Headers are short where the form's code says so, or without a form where option 18 is there.
 abbrev pub is_short_by : Option (ℕ × ℕ) → Bool → Bool

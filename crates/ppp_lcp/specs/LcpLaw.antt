@@ -1,6 +1,6 @@
 -- LCP's rows owe what rows owe, and its Magic-Numbers differ.
-use Rattle.std.proofs.Common.{◌≡◌, ◌≢◌, ℕ, ◌+◌, ◌^◌, ◌<◌, ◌≤◌, Bool, true, false, not, ◌&&◌, ◌||◌, List, [], ◌∷◌, length, take, refl, sym, ◌∙◌, ap, subst, arith}
-use Rattle.std.specs.Prelude.{◌==◌, nat_le, nat_lt, if◌then◌else◌, Option, Some, None, IsTrue, bit_or}
+use Rattle.std.proofs.Common.{◌≡◌, ℕ, ◌+◌, ◌≤◌, Bool, true, false, not, ◌&&◌, List, [], ◌∷◌, length, take, refl, sym, ◌∙◌, subst, arith}
+use Rattle.std.specs.Prelude.{◌==◌, nat_le, if◌then◌else◌, Option, Some, None}
 use Rattle.std.specs.Bool.{then_some}
 use Rattle.std.specs.Option.{option_map}
 use Rattle.std.specs.Str.{bytes_eq}
@@ -10,17 +10,15 @@ use Rattle.ppp_packet.specs.ConfigOption.{ConfigOption}
 use Rattle.ppp_packet.specs.Packet.{two_octets}
 use Rattle.ppp_packet.specs.DiscClass.{is_good_disc}
 use Rattle.ppp_auto.specs.Taken.{four_octets}
-use Rattle.ppp_options.specs.Differs.{Differs}
 use Rattle.ppp_options.specs.DiffersLaw.{TakesOthers, allowed-differs}
-use Rattle.ppp_options.specs.Number.{number, is_within, is_new, number_of, pick}
+use Rattle.ppp_options.specs.Number.{number, is_within, is_new, pick}
 use Rattle.ppp_options.specs.NumberLaw.{number-two_octets, two_octets-within}
 use Rattle.ppp_options.specs.NumberRuleLaw.{number_is_rule, drawn-sent}
 use Rattle.ppp_options.specs.Rule.{IsRule}
 use Rattle.ppp_options.specs.RuleLaw.{and-both, both-and}
 use Rattle.ppp_options.specs.Rules.{IsTable, Sendable, Allows}
-use Rattle.ppp_lcp.specs.LcpKind.{kind_number}
 use Rattle.ppp_lcp.specs.LcpRanges.{is_mrru, are_classes, is_disc_body, is_classes_body}
-use Rattle.ppp_lcp.specs.LcpTable.{lcp_rule, mru_rule, accm_after, accm_rule, magic_rule, flag_rule, pfc_rule, acfc_rule, mrru_rule, short_rule, disc_body, disc_rule, is_link_disc, link_disc_rule, is_own_form, own_code, has_classes, nearest, better_form, classes_rule, lcp_rules, is_multilink, asks_short}
+use Rattle.ppp_lcp.specs.LcpTable.{FitsMagic, lcp_rule, mru_rule, accm_after, accm_rule, magic_rule, flag_rule, mrru_rule, disc_body, disc_rule, is_link_disc, link_disc_rule, is_own_form, own_code, has_classes, better_form, classes_rule, lcp_rules, is_multilink, asks_short}
 use Rattle.ppp_lcp.specs.declared.lcp_kind.LcpKind.{LcpKind}
 use Rattle.ppp_lcp.specs.declared.lcp_kind.LcpKind.TheVariants.{Mru, Accm, Magic, Pfc, Acfc, Mrru, Short, Disc, LinkDisc, Classes}
 use Rattle.ppp_lcp.specs.declared.lcp_table.LcpTable.{LcpTable}
@@ -43,7 +41,8 @@ within-if-long : (least most low high : ℕ) (last nak : List ℕ) → is_within
 within-if-long least most low high last nak h = grind (arith, nat_tests)
 
 -- MRU
-mru-first : (mru : ℕ) (body : List ℕ) → 128 ≤ mru → mru ≤ 8192 → then_some (not (mru == 1500)) (two_octets mru) ≡ Some body → is_within 2 128 8192 body ≡ true
+mru-first : (mru : ℕ) (body : List ℕ) → 128 ≤ mru → mru ≤ 8192 → then_some (not (mru == 1500))
+    (two_octets mru) ≡ Some body → is_within 2 128 8192 body ≡ true
 mru-first mru body low high e =
     let asked = then-some (not (mru == 1500)) (two_octets mru) body e in
     subst (λ (b : List ℕ). is_within 2 128 8192 b ≡ true) asked.1 (two_octets-within 128 8192 mru (omega arith) low high)
@@ -65,7 +64,8 @@ mru_is_rule t ranged = record {
 }
 
 -- ACCM
-accm-first : (asked : Bool) (accm : ℕ) (body : List ℕ) → then_some asked (four_octets accm) ≡ Some body → (length body == 4) ≡ true
+accm-first : (asked : Bool) (accm : ℕ) (body : List ℕ) → then_some asked (four_octets accm) ≡ Some body →
+    (length body == 4) ≡ true
 accm-first asked accm body e =
     let one = then-some asked (four_octets accm) body e in subst (λ (b : List ℕ). (length b == 4) ≡ true) one.1 refl
 
@@ -92,7 +92,8 @@ accm_is_rule t = record {
 }
 
 -- Magic-Number
-magic-first : (asked : Bool) (word : ℕ) (body : List ℕ) → then_some asked (four_octets (pick word 0)) ≡ Some body → is_new 4 0 body ≡ true
+magic-first : (asked : Bool) (word : ℕ) (body : List ℕ) → then_some asked (four_octets (pick word 0)) ≡ Some body →
+    is_new 4 0 body ≡ true
 magic-first asked word body e =
     let one = then-some asked (four_octets (pick word 0)) body e in subst (λ (b : List ℕ). is_new 4 0 b ≡ true) one.1 (drawn-sent word 0)
 
@@ -117,7 +118,8 @@ flag_is_rule kind set known = record {
 }
 
 -- MRRU
-mrru-first : (mrru : ℕ) (body : List ℕ) → is_mrru mrru ≡ true → then_some (not (mrru == 0)) (two_octets mrru) ≡ Some body → is_within 2 1500 8192 body ≡ true
+mrru-first : (mrru : ℕ) (body : List ℕ) → is_mrru mrru ≡ true → then_some (not (mrru == 0))
+    (two_octets mrru) ≡ Some body → is_within 2 1500 8192 body ≡ true
 mrru-first mrru body ranged e =
     let asked = then-some (not (mrru == 0)) (two_octets mrru) body e in
     let not_zero : not (mrru == 0) ≡ true = asked.0 in
@@ -128,7 +130,8 @@ mrru-first mrru body ranged e =
 set-at : (b : Bool) (n most : ℕ) → b ≡ true → n ≡ most → (b && nat_le n most) ≡ true
 set-at b n most h e = grind (arith, nat_tests)
 
-mrru-set-first : (mrru : ℕ) (body : List ℕ) → is_mrru mrru ≡ true → then_some (not (mrru == 0)) (two_octets mrru) ≡ Some body → (not (mrru == 0) && nat_le (number body) mrru) ≡ true
+mrru-set-first : (mrru : ℕ) (body : List ℕ) → is_mrru mrru ≡ true → then_some (not (mrru == 0))
+    (two_octets mrru) ≡ Some body → (not (mrru == 0) && nat_le (number body) mrru) ≡ true
 mrru-set-first mrru body ranged e =
     let asked = then-some (not (mrru == 0)) (two_octets mrru) body e in
     let high : mrru ≤ 8192 = grind (arith, nat_tests) in
@@ -168,7 +171,8 @@ disc-short : (body : List ℕ) → is_disc_body body ≡ true → 2 + length bod
 disc-short [] h = cc
 disc-short (c ∷ address) h = let most = size-most c (length address) h in omega arith
 
-disc-first : (t : LcpSettings) → IsRanged t → (asked : Bool) (body : List ℕ) → then_some asked (disc_body t) ≡ Some body → (is_disc_body body ≡ true) × (asked ≡ true) × (disc_body t ≡ body)
+disc-first : (t : LcpSettings) → IsRanged t → (asked : Bool) (body : List ℕ) → then_some asked (disc_body t) ≡ Some body →
+    (is_disc_body body ≡ true) × (asked ≡ true) × (disc_body t ≡ body)
 disc-first t ranged asked body e =
     let one = then-some asked (disc_body t) body e in (subst (λ (b : List ℕ). is_disc_body b ≡ true) one.1 ranged.is_disc, one.0, one.1)
 
@@ -214,7 +218,8 @@ form-good : (short : Bool) (classes : ℕ) (count : ℕ) → are_classes short c
 form-good true classes count h low high = grind (arith, nat_tests)
 form-good false classes count h low high = grind (arith, nat_tests)
 
-if-passes : (p : List ℕ → Bool) (b : Bool) (x y : List ℕ) → (b ≡ true → p x ≡ true) → p y ≡ true → p (if b then x else y) ≡ true
+if-passes : (p : List ℕ → Bool) (b : Bool) (x y : List ℕ) → (b ≡ true → p x ≡ true) → p y ≡ true →
+    p (if b then x else y) ≡ true
 if-passes p true x y h k = h refl
 if-passes p false x y h k = k
 
@@ -224,14 +229,16 @@ not-zero n h = grind (arith, nat_tests)
 same-number : (n : ℕ) → (n == n) ≡ true
 same-number n = grind (arith, nat_tests)
 
-own-form : (t : LcpSettings) (code count : ℕ) → code ≡ own_code t → 1 ≤ count → count ≤ t.classes → is_own_form t (code ∷ count ∷ []) ≡ true
+own-form : (t : LcpSettings) (code count : ℕ) → code ≡ own_code t → 1 ≤ count → count ≤ t.classes →
+    is_own_form t (code ∷ count ∷ []) ≡ true
 own-form t code count same low high =
     let a : (code == own_code t) ≡ true = rw same (same-number (own_code t)) in
     let b : nat_le 1 count ≡ true = grind (arith, nat_tests) in
     let c : nat_le count t.classes ≡ true = grind (arith, nat_tests) in
     rw (a, b) c
 
-form-first : (t : LcpSettings) → IsRanged t → (body : List ℕ) → then_some (has_classes t) (own_code t ∷ t.classes ∷ []) ≡ Some body → (is_classes_body body ≡ true) × ((has_classes t && is_own_form t body) ≡ true)
+form-first : (t : LcpSettings) → IsRanged t → (body : List ℕ) → then_some (has_classes t) (own_code t ∷ t.classes ∷ []) ≡ Some body →
+    (is_classes_body body ≡ true) × ((has_classes t && is_own_form t body) ≡ true)
 form-first t ranged body e =
     let asked = then-some (has_classes t) (own_code t ∷ t.classes ∷ []) body e in
     let some = and-both (not (t.classes == 0)) (is_multilink t) asked.0 in
@@ -259,7 +266,8 @@ own-good t ranged (code ∷ count ∷ []) h =
     rw same (form-good t.short t.classes count ranged.are_classes low high)
 own-good t ranged (code ∷ count ∷ more ∷ rest) h = cc
 
-form-after : (own : List ℕ → Bool) (last nak : List ℕ) → ((body : List ℕ) → own body ≡ true → is_classes_body body ≡ true) → is_classes_body last ≡ true →
+form-after : (own : List ℕ → Bool) (last nak : List ℕ) →
+    ((body : List ℕ) → own body ≡ true → is_classes_body body ≡ true) → is_classes_body last ≡ true →
     is_classes_body (if own nak then nak else last) ≡ true
 form-after own last nak good h = if-passes is_classes_body (own nak) nak last (good nak) h
 
@@ -313,7 +321,8 @@ lcp_is_table t ranged = record {
 takes_others : (t : LcpSettings) → TakesOthers (lcp_rules t) 5 4
 takes_others t = record { takes = λ own body h. h }
 
-pub lcp_fits : (t : LcpSettings) (own theirs : List ConfigOption) → Sendable (lcp_rules t) own → Allows (lcp_rules t) own theirs → Differs 5 4 own theirs
+pub lcp_fits : (t : LcpSettings) (own theirs : List ConfigOption) → Sendable (lcp_rules t) own →
+    Allows (lcp_rules t) own theirs → FitsMagic own theirs
 lcp_fits t own theirs sends allowed = allowed-differs (lcp_rules t) 5 4 (takes_others t) own theirs allowed
 
 -- a table's values are within their ranges

@@ -1,5 +1,5 @@
 -- LCP's table: its rows, in ascending Types.
-use Rattle.std.specs.Prelude.{ℕ, ◌+◌, Bool, true, false, not, ◌&&◌, ◌||◌, ◌==◌, nat_le, nat_lt, if◌then◌else◌, List, [], ◌∷◌, length, Option, Some, None, bit_or}
+use Rattle.std.specs.Prelude.{ℕ, ◌+◌, Bool, true, false, not, ◌&&◌, ◌==◌, nat_le, nat_lt, if◌then◌else◌, List, [], ◌∷◌, length, Option, Some, None, bit_or}
 use Rattle.std.specs.Bool.{then_some}
 use Rattle.std.specs.Option.{option_map}
 use Rattle.std.specs.Str.{bytes_eq}
@@ -8,6 +8,8 @@ use Rattle.ppp_packet.specs.Packet.{two_octets}
 use Rattle.ppp_packet.specs.declared.disc.TheConstants.{MOST_ADDRESS}
 use Rattle.ppp_packet.specs.declared.options.TheConstants.{OPTION_HEADER}
 use Rattle.ppp_auto.specs.Taken.{four_octets}
+use Rattle.ppp_options.specs.declared.number.TheConstants.{OCTETS_U16, OCTETS_U32}
+use Rattle.ppp_options.specs.Differs.{Differs}
 use Rattle.ppp_options.specs.Number.{number, is_within, pick, number_of}
 use Rattle.ppp_options.specs.NumberRule.{number_rule}
 use Rattle.ppp_options.specs.Rule.{Rule}
@@ -16,37 +18,37 @@ use Rattle.ppp_lcp.specs.LcpRanges.{is_disc_body, is_classes_body}
 use Rattle.ppp_lcp.specs.declared.lcp_kind.LcpKind.{LcpKind}
 use Rattle.ppp_lcp.specs.declared.lcp_kind.LcpKind.TheVariants.{Mru, Accm, Magic, Pfc, Acfc, Mrru, Short, Disc, LinkDisc, Classes}
 use Rattle.ppp_lcp.specs.LcpSettings.{LcpSettings}
-use Rattle.ppp_lcp.specs.declared.lcp_table.TheConstants.{DEFAULT_MRU, LEAST_MRU, MOST_MRU, DEFAULT_ACCM, LEAST_MRRU, MOST_MRRU, LONG_CODE, SHORT_CODE, MOST_LONG_CLASSES, MOST_SHORT_CLASSES}
+use Rattle.ppp_lcp.specs.declared.lcp_table.TheConstants.{FORM_OCTETS, DEFAULT_MRU, LEAST_MRU, MOST_MRU, DEFAULT_ACCM, LEAST_MRRU, MOST_MRRU, LONG_CODE, SHORT_CODE, MOST_LONG_CLASSES, MOST_SHORT_CLASSES}
 
 -- Maximum-Receive-Unit (RFC 1661 section 6.1)
 abbrev pub mru_rule : LcpSettings → Rule
 mru_rule s = record {
   kind = kind_number Mru;
-  most = 4;
+  most = OPTION_HEADER + OCTETS_U16;
   required = false;
   first = λ word. then_some (not (s.mru == DEFAULT_MRU)) (two_octets s.mru);
-  is_sent = is_within 2 LEAST_MRU MOST_MRU;
+  is_sent = is_within OCTETS_U16 LEAST_MRU MOST_MRU;
   is_set = λ body. true;
   is_known = λ body. true;
-  is_good = λ own body. (length body == 2) && nat_le LEAST_MRU (number body);
-  better = λ own body word. two_octets (if length body == 2 then LEAST_MRU else DEFAULT_MRU);
-  after = λ last nak word. if is_within 2 LEAST_MRU MOST_MRU nak then nak else last;
+  is_good = λ own body. (length body == OCTETS_U16) && nat_le LEAST_MRU (number body);
+  better = λ own body word. two_octets (if length body == OCTETS_U16 then LEAST_MRU else DEFAULT_MRU);
+  after = λ last nak word. if is_within OCTETS_U16 LEAST_MRU MOST_MRU nak then nak else last;
 }
 
 -- Async-Control-Character-Map (RFC 1662 section 7.1): a Nak adds the octets that the peer wants escaped
 abbrev pub accm_after : List ℕ → List ℕ → List ℕ
-accm_after last nak = if length nak == 4 then four_octets (bit_or (number last) (number nak)) else last
+accm_after last nak = if length nak == OCTETS_U32 then four_octets (bit_or (number last) (number nak)) else last
 
 abbrev pub accm_rule : LcpSettings → Rule
 accm_rule s = record {
   kind = kind_number Accm;
-  most = 6;
+  most = OPTION_HEADER + OCTETS_U32;
   required = false;
   first = λ word. then_some (not (s.accm == DEFAULT_ACCM)) (four_octets s.accm);
-  is_sent = λ body. length body == 4;
+  is_sent = λ body. length body == OCTETS_U32;
   is_set = λ body. true;
   is_known = λ body. true;
-  is_good = λ own body. length body == 4;
+  is_good = λ own body. length body == OCTETS_U32;
   better = λ own body word. four_octets DEFAULT_ACCM;
   after = λ last nak word. accm_after last nak;
 }
@@ -57,9 +59,13 @@ magic_rule s = number_rule (kind_number Magic) false (λ word. then_some s.magic
 
 -- a list's Magic-Number, or 0
 abbrev pub magic_of : List ConfigOption → ℕ
-magic_of list = number_of (kind_number Magic) 4 list
+magic_of list = number_of (kind_number Magic) OCTETS_U32 list
 
--- An option without a body: it is there or it isn's.
+-- Two lists fit where they don't have the same Magic-Number.
+abbrev pub FitsMagic : List ConfigOption → List ConfigOption → Type 0
+FitsMagic = Differs (kind_number Magic) OCTETS_U32
+
+-- An option without a body: it is there or it isn't.
 abbrev pub flag_rule : LcpKind → Bool → Bool → Rule
 flag_rule kind set known = record {
   kind = kind_number kind;
@@ -97,15 +103,15 @@ short_rule s = flag_rule Short (asks_short s) (is_multilink s)
 abbrev pub mrru_rule : LcpSettings → Rule
 mrru_rule s = record {
   kind = kind_number Mrru;
-  most = 4;
+  most = OPTION_HEADER + OCTETS_U16;
   required = false;
   first = λ word. then_some (is_multilink s) (two_octets s.mrru);
-  is_sent = is_within 2 LEAST_MRRU MOST_MRRU;
+  is_sent = is_within OCTETS_U16 LEAST_MRRU MOST_MRRU;
   is_set = λ body. is_multilink s && nat_le (number body) s.mrru;
   is_known = λ body. is_multilink s;
-  is_good = λ own body. (length body == 2) && nat_le LEAST_MRRU (number body);
+  is_good = λ own body. (length body == OCTETS_U16) && nat_le LEAST_MRRU (number body);
   better = λ own body word. two_octets LEAST_MRRU;
-  after = λ last nak word. if is_within 2 LEAST_MRRU s.mrru nak then nak else last;
+  after = λ last nak word. if is_within OCTETS_U16 LEAST_MRRU s.mrru nak then nak else last;
 }
 
 -- Endpoint-Discriminator (RFC 1990 section 5.1.3)
@@ -115,7 +121,7 @@ disc_body s = s.disc.0 ∷ s.disc.1
 abbrev pub disc_rule : LcpSettings → Rule
 disc_rule s = record {
   kind = kind_number Disc;
-  most = 3 + MOST_ADDRESS;
+  most = OPTION_HEADER + (1 + MOST_ADDRESS);
   required = false;
   first = λ word. then_some (not (s.disc.0 == 0)) (disc_body s);
   is_sent = is_disc_body;
@@ -126,7 +132,7 @@ disc_rule s = record {
   after = λ last nak word. last;
 }
 
--- Link-Discriminator (RFC 2125 section 6.1)
+-- Link-Discriminator (RFC 2125)
 abbrev pub is_link_disc : Option ℕ → List ℕ → Bool
 is_link_disc None body = false
 is_link_disc (Some n) body = bytes_eq body (two_octets n)
@@ -134,13 +140,13 @@ is_link_disc (Some n) body = bytes_eq body (two_octets n)
 abbrev pub link_disc_rule : LcpSettings → Rule
 link_disc_rule s = record {
   kind = kind_number LinkDisc;
-  most = 4;
+  most = OPTION_HEADER + OCTETS_U16;
   required = false;
   first = λ word. option_map two_octets s.link_disc;
-  is_sent = λ body. length body == 2;
+  is_sent = λ body. length body == OCTETS_U16;
   is_set = is_link_disc s.link_disc;
   is_known = λ body. true;
-  is_good = λ own body. length body == 2;
+  is_good = λ own body. length body == OCTETS_U16;
   better = λ own body word. two_octets 0;
   after = λ last nak word. last;
 }
@@ -170,7 +176,7 @@ better_form body = LONG_CODE ∷ 1 ∷ []
 abbrev pub classes_rule : LcpSettings → Rule
 classes_rule s = record {
   kind = kind_number Classes;
-  most = 4;
+  most = OPTION_HEADER + FORM_OCTETS;
   required = false;
   first = λ word. then_some (has_classes s) (own_code s ∷ s.classes ∷ []);
   is_sent = is_classes_body;

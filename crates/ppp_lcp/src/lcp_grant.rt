@@ -3,15 +3,16 @@
 ghost use Rattle.std.specs.Prelude.{◌≡◌, length, is_some};
 ghost use Rattle.std.specs.Option.{option_map, unwrap_or};
 ghost use Rattle.ppp_options.specs.Number.{number, body_of};
+ghost use Rattle.ppp_options.specs.declared.number.TheConstants.{OCTETS_U16, OCTETS_U32};
 ghost use Rattle.ppp_lcp.specs.LcpGrant as spec;
 ghost use Rattle.ppp_lcp.specs.LcpKind.{kind_number};
 ghost use Rattle.ppp_lcp.specs.declared.lcp_kind.LcpKind.TheVariants as kind;
 ghost use Rattle.ppp_lcp.specs.declared.lcp_table.TheConstants.{DEFAULT_ACCM, DEFAULT_MRU};
 
 use crate::lcp_kind::LcpKind;
-use crate::lcp_table::{DEFAULT_ACCM, DEFAULT_MRU, SHORT_CODE};
+use crate::lcp_table::{DEFAULT_ACCM, DEFAULT_MRU, FORM_OCTETS, SHORT_CODE};
 use crate::rows::is_disc;
-use ppp_options::{number_u16, number_u32, sized_of};
+use ppp_options::{OCTETS_U16, OCTETS_U32, number_u16, number_u32, sized_of};
 use ppp_packet::{Disc, OptList, Options};
 
 /// What a list of options grants the end that asked for them. What isn't in the list is as if it wasn't negotiated.
@@ -42,14 +43,14 @@ pub struct LcpGrant {
 /// What a list grants: of each Type the first option with its right Length counts, and of endpoint discriminators the
 /// first with a class and an address of its length.
 pub fn grant_of(list: &OptList) -> LcpGrant
-    ensures mru { result.mru ≡ unwrap_or (spec.granted kind.Mru 2 list.now) DEFAULT_MRU }
-    ensures accm { result.accm ≡ unwrap_or (spec.granted kind.Accm 4 list.now) DEFAULT_ACCM }
-    ensures magic { result.magic ≡ unwrap_or (spec.granted kind.Magic 4 list.now) 0 }
-    ensures mrru { result.mrru ≡ unwrap_or (spec.granted kind.Mrru 2 list.now) 0 }
+    ensures mru { result.mru ≡ unwrap_or (spec.granted kind.Mru OCTETS_U16 list.now) DEFAULT_MRU }
+    ensures accm { result.accm ≡ unwrap_or (spec.granted kind.Accm OCTETS_U32 list.now) DEFAULT_ACCM }
+    ensures magic { result.magic ≡ unwrap_or (spec.granted kind.Magic OCTETS_U32 list.now) 0 }
+    ensures mrru { result.mrru ≡ unwrap_or (spec.granted kind.Mrru OCTETS_U16 list.now) 0 }
     ensures short { result.short ≡ spec.is_short list.now }
     ensures classes { result.classes ≡ spec.count_by (spec.granted_form list.now) }
     ensures disc { spec.disc_seen result.disc ≡ spec.granted_disc list.now }
-    ensures link_disc { result.link_disc ≡ spec.granted kind.LinkDisc 2 list.now }
+    ensures link_disc { result.link_disc ≡ spec.granted kind.LinkDisc OCTETS_U16 list.now }
     ensures pfc { result.pfc ≡ spec.is_granted kind.Pfc list.now }
     ensures acfc { result.acfc ≡ spec.is_granted kind.Acfc list.now }
 {
@@ -74,7 +75,7 @@ fn form_in(list: &Options<'_>) -> (bool, u8)
     ensures short { result.0 ≡ spec.is_short list.now }
     ensures classes { result.1 ≡ spec.count_by (spec.granted_form list.now) }
 {
-    match sized_of(list, LcpKind::Classes.number(), 2) {
+    match sized_of(list, LcpKind::Classes.number(), FORM_OCTETS) {
         Some(form) => (form[0] == SHORT_CODE, form[1]),
         None => (has_flag(list, LcpKind::Short), 0),
     }
@@ -82,9 +83,9 @@ fn form_in(list: &Options<'_>) -> (bool, u8)
 
 /// The number of two octets of the first option of this Type that has them.
 fn number_in(list: &Options<'_>, kind: LcpKind) -> Option<u16>
-    ensures { result ≡ spec.granted kind 2 list.now }
+    ensures { result ≡ spec.granted kind OCTETS_U16 list.now }
 {
-    match sized_of(list, kind.number(), 2) {
+    match sized_of(list, kind.number(), OCTETS_U16) {
         Some(body) => Some(number_u16(body)),
         None => None,
     }
@@ -92,9 +93,9 @@ fn number_in(list: &Options<'_>, kind: LcpKind) -> Option<u16>
 
 /// The number of four octets of the first option of this Type that has them.
 fn long_in(list: &Options<'_>, kind: LcpKind) -> Option<u32>
-    ensures { result ≡ spec.granted kind 4 list.now }
+    ensures { result ≡ spec.granted kind OCTETS_U32 list.now }
 {
-    match sized_of(list, kind.number(), 4) {
+    match sized_of(list, kind.number(), OCTETS_U32) {
         Some(body) => Some(number_u32(body)),
         None => None,
     }

@@ -24,7 +24,7 @@ pub enum LcpKind {
     Short,
     /// Type 19, the Endpoint-Discriminator (RFC 1990 section 5.1.3).
     Disc,
-    /// Type 23, the Link-Discriminator (RFC 2125 section 6.1).
+    /// Type 23, the Link-Discriminator (RFC 2125).
     LinkDisc,
     /// Type 27, the multilink header's form with classes (after RFC 2686).
     Classes,

@@ -25,6 +25,9 @@ pub const LEAST_MRRU: u16 = 1500;
 /// The greatest that is asked for.
 pub const MOST_MRRU: u16 = 8192;
 
+/// The octets of a header's form with classes: its code and a count.
+pub const FORM_OCTETS: usize = 2;
+
 /// The code of long multilink headers with classes (after RFC 2686).
 pub const LONG_CODE: u8 = 2;
 

@@ -16,8 +16,8 @@ pub use laws::settings_kept;
 pub use lcp_grant::{LcpGrant, grant_of};
 pub use lcp_kind::{LcpKind, UnknownKind};
 pub use lcp_table::{
-    DEFAULT_ACCM, DEFAULT_MRU, LEAST_MRRU, LEAST_MRU, LONG_CODE, LcpTable, MOST_LONG_CLASSES,
-    MOST_MRRU, MOST_MRU, MOST_SHORT_CLASSES, SHORT_CODE,
+    DEFAULT_ACCM, DEFAULT_MRU, FORM_OCTETS, LEAST_MRRU, LEAST_MRU, LONG_CODE, LcpTable,
+    MOST_LONG_CLASSES, MOST_MRRU, MOST_MRU, MOST_SHORT_CLASSES, SHORT_CODE,
 };
 
 #[cfg(test)]

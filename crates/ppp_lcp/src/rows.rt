@@ -7,10 +7,9 @@ ghost use Rattle.ppp_packet.specs.Packet.{two_octets};
 ghost use Rattle.ppp_packet.specs.OptRef.{option_seen};
 ghost use Rattle.ppp_packet.specs.Proto.{proto_number};
 ghost use Rattle.ppp_packet.specs.declared.proto.Proto.TheVariants.{Lcp};
-ghost use Rattle.ppp_packet.specs.declared.opt.TheConstants.{MOST_KEPT_BODY};
 ghost use Rattle.ppp_auto.specs.Taken.{four_octets};
-ghost use Rattle.ppp_options.specs.Differs.{Differs};
 ghost use Rattle.ppp_options.specs.DiffersLaw.{differs-both_ways};
+ghost use Rattle.ppp_options.specs.declared.number.TheConstants.{OCTETS_U32};
 ghost use Rattle.ppp_options.specs.RuleLaw.{rules_lawful};
 ghost use Rattle.ppp_options.specs.Rules.{first_option, verdict, table_by, Sendable, IsUnknown, Allows};
 ghost use Rattle.ppp_lcp.specs.LcpKind.{kind_number};
@@ -22,13 +21,14 @@ ghost use Rattle.ppp_lcp.specs.declared.lcp_kind.LcpKind.TheVariants.{Accm, Magi
 
 use crate::lcp_kind::LcpKind;
 use crate::lcp_table::{
-    DEFAULT_ACCM, DEFAULT_MRU, LEAST_MRRU, LEAST_MRU, LONG_CODE, LcpTable, MOST_LONG_CLASSES,
-    MOST_MRRU, MOST_MRU, MOST_SHORT_CLASSES, SHORT_CODE,
+    DEFAULT_ACCM, DEFAULT_MRU, FORM_OCTETS, LEAST_MRRU, LEAST_MRU, LONG_CODE, LcpTable,
+    MOST_LONG_CLASSES, MOST_MRRU, MOST_MRU, MOST_SHORT_CLASSES, SHORT_CODE,
 };
 use ppp_auto::{OptionTable, Verdict};
 use ppp_options::{
-    OptionRules, first_list, is_new_u32, is_within_u16, list_after_nak, list_after_reject,
-    number_of_u32, number_taken, number_u16, number_u32, octets_u16, octets_u32, pick,
+    OCTETS_U16, OCTETS_U32, OptionRules, first_list, is_new_u32, is_within_u16, list_after_nak,
+    list_after_reject, number_of_u32, number_taken, number_u16, number_u32, octets_u16, octets_u32,
+    pick,
 };
 use ppp_packet::{DiscClass, MOST_ADDRESS, Opt, OptList, OptRef, Options};
 
@@ -83,7 +83,7 @@ impl OptionTable for LcpTable {
 
     ghost allows = { λ t. Allows (spec.lcp_rules (settings_seen t)) };
 
-    ghost compat = { Differs 5 4 };
+    ghost compat = { spec.FitsMagic };
 
     fn initial(&self, word: u64) -> OptList {
         first_list(self, word)
@@ -112,8 +112,8 @@ impl OptionTable for LcpTable {
         number_of_u32(mine, LcpKind::Magic.number())
     }
 
-    ghost lawful = { λ t. rules_lawful true (spec.lcp_rules (settings_seen t)) spec.magic_of (Differs 5 4) (lcp_is_table (settings_seen t) (table_ranged t))
-        (lcp_fits (settings_seen t)) (differs-both_ways 5 4) };
+    ghost lawful = { λ t. rules_lawful true (spec.lcp_rules (settings_seen t)) spec.magic_of spec.FitsMagic (lcp_is_table (settings_seen t) (table_ranged t))
+        (lcp_fits (settings_seen t)) (differs-both_ways (kind_number Magic) OCTETS_U32) };
 
     ghost extends = { λ t. refl };
 }
@@ -226,14 +226,16 @@ impl LcpTable {
     fn is_own_form(&self, body: &[u8]) -> bool
         ensures { result ≡ spec.is_own_form (settings_seen self.now) body.now }
     {
-        body.len() == 2 && body[0] == self.own_code() && (1..=self.classes).contains(&body[1])
+        body.len() == FORM_OCTETS
+            && body[0] == self.own_code()
+            && (1..=self.classes).contains(&body[1])
     }
 
     /// The option of the own endpoint discriminator.
     fn disc_option(&self) -> Opt
         ensures { result ≡ option_with (kind_number Disc) (spec.disc_body (settings_seen self.now)) }
     {
-        let mut body = [0; 21];
+        let mut body = [0; 1 + MOST_ADDRESS];
         let size = usize::from(self.disc.size);
         body[0] = self.disc.class;
         body[1..=size].copy_from_slice(self.disc.address());
@@ -265,12 +267,12 @@ fn is_sent(kind: LcpKind, body: &[u8]) -> bool
 {
     match kind {
         LcpKind::Mru => is_within_u16(LEAST_MRU, MOST_MRU, body),
-        LcpKind::Accm => body.len() == 4,
+        LcpKind::Accm => body.len() == OCTETS_U32,
         LcpKind::Magic => is_new_u32(0, body),
         LcpKind::Pfc | LcpKind::Acfc | LcpKind::Short => body.is_empty(),
         LcpKind::Mrru => is_within_u16(LEAST_MRRU, MOST_MRRU, body),
         LcpKind::Disc => is_disc(body),
-        LcpKind::LinkDisc => body.len() == 2,
+        LcpKind::LinkDisc => body.len() == OCTETS_U16,
         LcpKind::Classes => is_form(body),
     }
 }
@@ -280,13 +282,13 @@ fn is_good(kind: LcpKind, own: &OptList, body: &[u8]) -> bool
     ensures { (t : LcpSettings) → result ≡ (spec.lcp_rule t kind).is_good own.now body.now }
 {
     match kind {
-        LcpKind::Mru => body.len() == 2 && LEAST_MRU <= number_u16(body),
-        LcpKind::Accm => body.len() == 4,
+        LcpKind::Mru => body.len() == OCTETS_U16 && LEAST_MRU <= number_u16(body),
+        LcpKind::Accm => body.len() == OCTETS_U32,
         LcpKind::Magic => is_new_u32(number_of_u32(own, kind.number()), body),
         LcpKind::Pfc | LcpKind::Acfc | LcpKind::Short => body.is_empty(),
-        LcpKind::Mrru => body.len() == 2 && LEAST_MRRU <= number_u16(body),
+        LcpKind::Mrru => body.len() == OCTETS_U16 && LEAST_MRRU <= number_u16(body),
         LcpKind::Disc => is_disc(body),
-        LcpKind::LinkDisc => body.len() == 2,
+        LcpKind::LinkDisc => body.len() == OCTETS_U16,
         LcpKind::Classes => is_form(body),
     }
 }
@@ -297,7 +299,7 @@ fn better(kind: LcpKind, own: &OptList, body: &[u8], word: u64) -> Opt
         ≡ option_with (kind_number kind) ((spec.lcp_rule t kind).better own.now body.now word) }
 {
     match kind {
-        LcpKind::Mru if body.len() == 2 => number_option(kind, LEAST_MRU),
+        LcpKind::Mru if body.len() == OCTETS_U16 => number_option(kind, LEAST_MRU),
         LcpKind::Mru => number_option(kind, DEFAULT_MRU),
         LcpKind::Accm => long_option(kind, DEFAULT_ACCM),
         LcpKind::Magic => long_option(kind, pick(word, number_of_u32(own, kind.number()))),
@@ -311,10 +313,10 @@ fn better(kind: LcpKind, own: &OptList, body: &[u8], word: u64) -> Opt
 
 /// The option of a map after a Configure-Nak, which adds the octets that the peer wants escaped.
 fn accm_after(last: &[u8], nak: &[u8]) -> Opt
-    requires { length last.now ≡ 4 }
+    requires { length last.now ≡ OCTETS_U32 }
     ensures { result ≡ option_with (kind_number Accm) (spec.accm_after last.now nak.now) }
 {
-    if nak.len() == 4 {
+    if nak.len() == OCTETS_U32 {
         long_option(LcpKind::Accm, number_u32(last) | number_u32(nak))
     } else {
         Opt::new(LcpKind::Accm.number(), last)
@@ -342,7 +344,7 @@ fn has_size(class: u8, size: usize) -> bool
 fn is_form(body: &[u8]) -> bool
     ensures { result ≡ is_classes_body body.now }
 {
-    body.len() == 2
+    body.len() == FORM_OCTETS
         && match body[0] {
             LONG_CODE => (1..=MOST_LONG_CLASSES).contains(&body[1]),
             SHORT_CODE => (1..=MOST_SHORT_CLASSES).contains(&body[1]),
@@ -354,7 +356,7 @@ fn is_form(body: &[u8]) -> bool
 fn better_form(body: &[u8]) -> Opt
     ensures { result ≡ option_with (kind_number Classes) (spec.better_form body.now) }
 {
-    let form = if body.len() != 2 {
+    let form = if body.len() != FORM_OCTETS {
         [LONG_CODE, 1]
     } else if body[0] == SHORT_CODE {
         [SHORT_CODE, body[1].clamp(1, MOST_SHORT_CLASSES)]

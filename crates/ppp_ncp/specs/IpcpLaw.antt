@@ -10,10 +10,12 @@ use Rattle.ppp_ncp.specs.IpcpTable.{is_address, address_rule, ipcp_rules}
 first-sent : (own : ℕ) (body : List ℕ) → Some (four_octets own) ≡ Some body → (length body == 4) ≡ true
 first-sent own body e = let same : four_octets own ≡ body = cc in subst (λ (b : List ℕ). (length b == 4) ≡ true) same refl
 
-after-long : (b : Bool) (last nak : List ℕ) → (length last == 4) ≡ true → length (if b && is_address nak then nak else last) ≡ length last
+after-long : (b : Bool) (last nak : List ℕ) → (length last == 4) ≡ true →
+    length (if b && is_address nak then nak else last) ≡ length last
 after-long b last nak h = grind (arith, nat_tests)
 
-after-sent : (b : Bool) (last nak : List ℕ) → (length last == 4) ≡ true → (length (if b && is_address nak then nak else last) == 4) ≡ true
+after-sent : (b : Bool) (last nak : List ℕ) → (length last == 4) ≡ true →
+    (length (if b && is_address nak then nak else last) == 4) ≡ true
 after-sent b last nak h = grind (arith, nat_tests)
 
 sent-short : (body : List ℕ) → (length body == 4) ≡ true → 2 + length body ≤ 6

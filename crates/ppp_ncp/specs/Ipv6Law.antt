@@ -4,12 +4,11 @@ use Rattle.std.specs.Prelude.{◌==◌, if◌then◌else◌, Some}
 use Rattle.std.specs.Bool.{then_some}
 use Rattle.std.proofs.lemmas.Bool.Decides.{nat_tests}
 use Rattle.ppp_packet.specs.ConfigOption.{ConfigOption}
-use Rattle.ppp_options.specs.Differs.{Differs}
 use Rattle.ppp_options.specs.DiffersLaw.{TakesOthers, allowed-differs}
 use Rattle.ppp_options.specs.Number.{eight_octets, is_new}
 use Rattle.ppp_options.specs.Rule.{IsRule}
 use Rattle.ppp_options.specs.Rules.{IsTable, Sendable, Allows}
-use Rattle.ppp_ncp.specs.Ipv6Table.{is_zero, identifier_rule, ipv6_rules}
+use Rattle.ppp_ncp.specs.Ipv6Table.{FitsIdentifier, is_zero, identifier_rule, ipv6_rules}
 
 first-sent : (ask : Bool) (own : ℕ) (body : List ℕ) → then_some ask (eight_octets own) ≡ Some body → (length body == 8) ≡ true
 first-sent true own body e = let same : eight_octets own ≡ body = cc in subst (λ (b : List ℕ). (length b == 8) ≡ true) same refl
@@ -49,5 +48,6 @@ ipv6_is_table own ask = record { ascending = refl; each = (is_rule own ask, tt);
 takes_others : (own : ℕ) (ask : Bool) → TakesOthers (ipv6_rules own ask) 1 8
 takes_others own ask = record { takes = λ mine body h. h }
 
-pub ipv6_fits : (own : ℕ) (ask : Bool) (mine theirs : List ConfigOption) → Sendable (ipv6_rules own ask) mine → Allows (ipv6_rules own ask) mine theirs → Differs 1 8 mine theirs
+pub ipv6_fits : (own : ℕ) (ask : Bool) (mine theirs : List ConfigOption) → Sendable (ipv6_rules own ask) mine →
+    Allows (ipv6_rules own ask) mine theirs → FitsIdentifier mine theirs
 ipv6_fits own ask mine theirs sends allowed = allowed-differs (ipv6_rules own ask) 1 8 (takes_others own ask) mine theirs allowed

@@ -12,7 +12,7 @@ ghost use Rattle.ppp_ncp.specs.IpcpTable as spec;
 
 use ppp_auto::{OptionTable, Verdict};
 use ppp_options::{
-    OptionRules, first_list, list_after_nak, list_after_reject, number_u32, octets_u32,
+    OCTETS_U32, OptionRules, first_list, list_after_nak, list_after_reject, number_u32, octets_u32,
 };
 use ppp_packet::{Opt, OptList, OptRef, Options};
 
@@ -45,7 +45,7 @@ impl OptionRules for IpcpTable {
     }
 
     fn is_sent(&self, option: OptRef<'_>) -> bool {
-        option.kind == ADDRESS && option.body.len() == 4
+        option.kind == ADDRESS && option.body.len() == OCTETS_U32
     }
 
     fn after_nak(&self, option: OptRef<'_>, nak: &[u8], _word: u64) -> Opt {
@@ -120,7 +120,7 @@ impl IpcpTable {
     {
         if is_address(body) {
             Verdict::Good
-        } else if body.len() == 4 && self.give.is_none() {
+        } else if body.len() == OCTETS_U32 && self.give.is_none() {
             Verdict::Unknown
         } else {
             Verdict::Bad(Opt::new(ADDRESS, &octets_u32(self.give.unwrap_or(0))))
@@ -132,5 +132,5 @@ impl IpcpTable {
 fn is_address(body: &[u8]) -> bool
     ensures { result ≡ spec.is_address body.now }
 {
-    body.len() == 4 && number_u32(body) != 0
+    body.len() == OCTETS_U32 && number_u32(body) != 0
 }

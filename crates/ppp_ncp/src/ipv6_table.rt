@@ -3,8 +3,8 @@
 ghost use Rattle.std.specs.Prelude.{◌≡◌, false, refl};
 ghost use Rattle.ppp_packet.specs.Proto.{proto_number};
 ghost use Rattle.ppp_packet.specs.declared.proto.Proto.TheVariants.{Ipv6};
-ghost use Rattle.ppp_options.specs.Differs.{Differs};
 ghost use Rattle.ppp_options.specs.DiffersLaw.{differs-both_ways};
+ghost use Rattle.ppp_options.specs.declared.number.TheConstants.{OCTETS_U64};
 ghost use Rattle.ppp_options.specs.RuleLaw.{rules_lawful};
 ghost use Rattle.ppp_options.specs.Rules.{table_by, Sendable, IsUnknown, Allows};
 ghost use Rattle.ppp_packet.specs.Options.{option_with};
@@ -14,8 +14,8 @@ ghost use Rattle.ppp_ncp.specs.declared.ipv6_table.TheConstants.{IDENTIFIER};
 
 use ppp_auto::{OptionTable, Verdict};
 use ppp_options::{
-    OptionRules, first_list, is_new_u64, list_after_nak, list_after_reject, number_of_u64,
-    number_u64, octets_u64, pick64,
+    OCTETS_U64, OptionRules, first_list, is_new_u64, list_after_nak, list_after_reject,
+    number_of_u64, number_u64, octets_u64, pick64,
 };
 use ppp_packet::{Opt, OptList, OptRef, Options};
 
@@ -47,7 +47,7 @@ impl OptionRules for Ipv6Table {
     }
 
     fn is_sent(&self, option: OptRef<'_>) -> bool {
-        option.kind == IDENTIFIER && option.body.len() == 8
+        option.kind == IDENTIFIER && option.body.len() == OCTETS_U64
     }
 
     fn after_nak(&self, option: OptRef<'_>, nak: &[u8], _word: u64) -> Opt {
@@ -78,7 +78,7 @@ impl OptionTable for Ipv6Table {
 
     ghost allows = { λ t. Allows (spec.ipv6_rules t.own t.ask) };
 
-    ghost compat = { Differs 1 8 };
+    ghost compat = { spec.FitsIdentifier };
 
     fn initial(&self, word: u64) -> OptList {
         first_list(self, word)
@@ -111,8 +111,8 @@ impl OptionTable for Ipv6Table {
         0
     }
 
-    ghost lawful = { λ t. rules_lawful false (spec.ipv6_rules t.own t.ask) (λ mine. 0) (Differs 1 8)
-        (ipv6_is_table t.own t.ask) (ipv6_fits t.own t.ask) (differs-both_ways 1 8) };
+    ghost lawful = { λ t. rules_lawful false (spec.ipv6_rules t.own t.ask) (λ mine. 0) spec.FitsIdentifier
+        (ipv6_is_table t.own t.ask) (ipv6_fits t.own t.ask) (differs-both_ways IDENTIFIER OCTETS_U64) };
 
     ghost extends = { λ t. refl };
 }
@@ -122,7 +122,7 @@ impl OptionTable for Ipv6Table {
 fn better(own: u64, body: &[u8], word: u64) -> Opt
     ensures { result ≡ option_with IDENTIFIER (spec.better_identifier own body.now word) }
 {
-    if body.len() == 8 && number_u64(body) == 0 && own == 0 {
+    if body.len() == OCTETS_U64 && number_u64(body) == 0 && own == 0 {
         Opt::new(IDENTIFIER, body)
     } else {
         Opt::new(IDENTIFIER, &octets_u64(pick64(word, own)))

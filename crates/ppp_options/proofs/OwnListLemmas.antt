@@ -10,7 +10,8 @@ use Rattle.ppp_options.specs.Rule.{Rule}
 use Rattle.ppp_options.specs.Rules.{rule_of, first_by, initial, is_sent, after_by, IsTable}
 use Rattle.ppp_options.specs.RuleLaw.{Finds, finds-self, first_sent, sent_short, after-long, rule-is}
 
-pub length_written-append : (xs ys : List ConfigOption) → length (written (xs ++ ys)) ≡ length (written xs) + length (written ys)
+pub length_written-append : (xs ys : List ConfigOption) →
+    length (written (xs ++ ys)) ≡ length (written xs) + length (written ys)
 length_written-append [] ys = omega arith
 length_written-append (o ∷ os) ys =
     let rest = length_written-append os ys in grind (arith, length-append {A = ℕ})
@@ -23,7 +24,8 @@ ok-with_room r list kind body room refused =
     grind (arith, length-append {A = ℕ}, size)
 
 -- a kind is in a list exactly where its first option is found
-pub has_kind-some : (kind : ℕ) (list : List ConfigOption) (body : List ℕ) → find_kind kind list ≡ Some body → has_kind kind list ≡ true
+pub has_kind-some : (kind : ℕ) (list : List ConfigOption) (body : List ℕ) → find_kind kind list ≡ Some body →
+    has_kind kind list ≡ true
 has_kind-some kind [] body h = cc
 has_kind-some kind (o ∷ os) body h = let rest = has_kind-some kind os body in grind (arith, nat_tests)
 
@@ -42,8 +44,10 @@ filter-kept p last list left behind new o passes done parts put =
     done ∙ rw (parts, passes, put) (sym (append_assoc list (o ∷ []) (filter p behind)))
 
 -- the room that is left once an option of that size was put behind a list
-pub room-step : (list left behind new : List ConfigOption) (o put : ConfigOption) → length (written list) + length (written left) ≤ 128 →
-    left ≡ o ∷ behind → new ≡ list ++ put ∷ [] → length put.body ≡ length o.body → length (written new) + length (written behind) ≤ 128
+pub room-step : (list left behind new : List ConfigOption) (o put : ConfigOption) →
+    length (written list) + length (written left) ≤ 128 →
+    left ≡ o ∷ behind → new ≡ list ++ put ∷ [] → length put.body ≡ length o.body →
+    length (written new) + length (written behind) ≤ 128
 room-step list left behind new o put room parts is_put size =
     let more = length_written-append list (put ∷ []) in
     rw is_put (grind (arith, length-append {A = ℕ}, more))
@@ -59,17 +63,20 @@ firsts-are whole (r ∷ rs) word finds = rw (finds.0, firsts-are whole rs word f
 pub initial-firsts : (rs : List Rule) (word : ℕ) → IsTable rs → initial rs word ≡ firsts rs word (map (λ r. r.kind) rs)
 initial-firsts rs word t = sym (firsts-are rs rs word (finds-self 0 rs t.ascending))
 
-pub firsts-none : (rs : List Rule) (word kind : ℕ) (whole list : List ConfigOption) (left behind : List ℕ) → whole ≡ list ++ firsts rs word left → left ≡ kind ∷ behind →
+pub firsts-none : (rs : List Rule) (word kind : ℕ) (whole list : List ConfigOption) (left behind : List ℕ) →
+    whole ≡ list ++ firsts rs word left → left ≡ kind ∷ behind →
     first_by (rule_of kind rs) word ≡ None → whole ≡ list ++ firsts rs word behind
 firsts-none rs word kind whole list left behind done parts none = done ∙ rw (parts, none) refl
 
-pub firsts-some : (rs : List Rule) (word kind : ℕ) (whole list new : List ConfigOption) (left behind : List ℕ) (o : ConfigOption) → whole ≡ list ++ firsts rs word left → left ≡ kind ∷ behind →
+pub firsts-some : (rs : List Rule) (word kind : ℕ) (whole list new : List ConfigOption) (left behind : List ℕ)
+    (o : ConfigOption) → whole ≡ list ++ firsts rs word left → left ≡ kind ∷ behind →
     first_by (rule_of kind rs) word ≡ Some o → new ≡ list ++ o ∷ [] → whole ≡ new ++ firsts rs word behind
 firsts-some rs word kind whole list new left behind o done parts some put =
     done ∙ rw (parts, some, put) (sym (append_assoc list (o ∷ []) (firsts rs word behind)))
 
 -- a first list has room for each of its options
-pub firsts-room : (rs : List Rule) (word kind : ℕ) (list : List ConfigOption) (left behind : List ℕ) (o : ConfigOption) → IsTable rs → initial rs word ≡ list ++ firsts rs word left →
+pub firsts-room : (rs : List Rule) (word kind : ℕ) (list : List ConfigOption) (left behind : List ℕ)
+    (o : ConfigOption) → IsTable rs → initial rs word ≡ list ++ firsts rs word left →
     left ≡ kind ∷ behind → first_by (rule_of kind rs) word ≡ Some o → length (written list) + (2 + length o.body) ≤ 128
 firsts-room rs word kind list left behind o t done parts some =
     let whole : initial rs word ≡ list ++ o ∷ firsts rs word behind = done ∙ rw (parts, some) refl in
@@ -80,8 +87,10 @@ firsts-room rs word kind list left behind o t done parts some =
     omega arith
 
 -- what a Nak makes of an option needs the room of the option
-pub after-room : (rs : List Rule) (list : List ConfigOption) (o after : ConfigOption) (nak : List ℕ) (word : ℕ) → IsTable rs → is_sent rs o ≡ true →
-    after ≡ option_with o.kind (after_by (rule_of o.kind rs) o.body nak word) → length (written list) + (2 + length o.body) ≤ 128 →
+pub after-room : (rs : List Rule) (list : List ConfigOption) (o after : ConfigOption) (nak : List ℕ) (word : ℕ) →
+    IsTable rs → is_sent rs o ≡ true →
+    after ≡ option_with o.kind (after_by (rule_of o.kind rs) o.body nak word) →
+    length (written list) + (2 + length o.body) ≤ 128 →
     length (written list) + (2 + length after.body) ≤ 128
 after-room rs list o after nak word t sent is room =
     let same = after-long (rule_of o.kind rs) o.body nak word (λ r e. rule-is rs o.kind r t.each e) sent in

@@ -16,19 +16,22 @@ pub record TakesOthers (rs : List Rule) (kind size : ℕ) : Type 0 where
 is-other : (n : ℕ) (own : ℕ) (size : ℕ) (body : List ℕ) → is_new size own body ≡ true → n ≡ number body → (n ≡ 0) ⊎ (n ≢ own)
 is-other n own size body new same = grind (arith, nat_tests)
 
-other-head : (b : Bool) (body : List ℕ) (rest : Option (List ℕ)) (own : ℕ) → (b ≡ true → (number body ≡ 0) ⊎ (number body ≢ own)) →
+other-head : (b : Bool) (body : List ℕ) (rest : Option (List ℕ)) (own : ℕ) →
+    (b ≡ true → (number body ≡ 0) ⊎ (number body ≢ own)) →
     (number_or_zero rest ≡ 0) ⊎ (number_or_zero rest ≢ own) →
     (number_or_zero (if b then Some body else rest) ≡ 0) ⊎ (number_or_zero (if b then Some body else rest) ≢ own)
 other-head true body rest own here later = here refl
 other-head false body rest own here later = later
 
-fine-at : (rs : List Rule) (kind : ℕ) (own : List ConfigOption) (o : ConfigOption) → o.kind ≡ kind → is_fine rs own o ≡ true → is_fine_by (rule_of kind rs) own o.body ≡ true
+fine-at : (rs : List Rule) (kind : ℕ) (own : List ConfigOption) (o : ConfigOption) → o.kind ≡ kind →
+    is_fine rs own o ≡ true → is_fine_by (rule_of kind rs) own o.body ≡ true
 fine-at rs kind own o e h = rw e at h
 
 kind-of : (kind size : ℕ) (o : ConfigOption) → ((o.kind == kind) && (length o.body == size)) ≡ true → o.kind ≡ kind
 kind-of kind size o h = grind (arith, nat_tests)
 
-other-number : (rs : List Rule) (kind size : ℕ) → TakesOthers rs kind size → (own earlier theirs : List ConfigOption) → all_fine rs own earlier theirs ≡ true →
+other-number : (rs : List Rule) (kind size : ℕ) → TakesOthers rs kind size →
+    (own earlier theirs : List ConfigOption) → all_fine rs own earlier theirs ≡ true →
     (number_of kind size theirs ≡ 0) ⊎ (number_of kind size theirs ≢ number_of kind size own)
 other-number rs kind size t own earlier [] h = inl refl
 other-number rs kind size t own earlier (o ∷ os) h =
@@ -40,7 +43,8 @@ other-number rs kind size t own earlier (o ∷ os) h =
 differs-if : (one other : ℕ) → (other ≡ 0) ⊎ (other ≢ one) → ((one == 0) || not (one == other)) ≡ true
 differs-if one other h = grind (arith, nat_tests)
 
-pub allowed-differs : (rs : List Rule) (kind size : ℕ) → TakesOthers rs kind size → (own theirs : List ConfigOption) → Allows rs own theirs → Differs kind size own theirs
+pub allowed-differs : (rs : List Rule) (kind size : ℕ) → TakesOthers rs kind size → (own theirs : List ConfigOption) →
+    Allows rs own theirs → Differs kind size own theirs
 allowed-differs rs kind size t own theirs h =
     let both = and-both (all_fine rs own [] theirs) (has_required rs theirs) h in
     differs-if (number_of kind size own) (number_of kind size theirs) (other-number rs kind size t own [] theirs both.0)
@@ -48,5 +52,6 @@ allowed-differs rs kind size t own theirs h =
 either-way : (one other : ℕ) → ((one == 0) || not (one == other)) ≡ true → ((other == 0) || not (other == one)) ≡ true
 either-way one other h = grind (arith, nat_tests)
 
-pub differs-both_ways : (kind size : ℕ) (one other : List ConfigOption) → Differs kind size one other → Differs kind size other one
+pub differs-both_ways : (kind size : ℕ) (one other : List ConfigOption) → Differs kind size one other →
+    Differs kind size other one
 differs-both_ways kind size one other h = either-way (number_of kind size one) (number_of kind size other) h

@@ -1,5 +1,6 @@
 -- Numbers in the bodies of options, the highest octet first, and numbers that are drawn.
 use Rattle.std.specs.Prelude.{ℕ, ◌+◌, ◌*◌, ◌/◌, ◌%◌, ◌^◌, Bool, not, ◌&&◌, ◌==◌, nat_le, if◌then◌else◌, List, [], ◌∷◌, length, Option, Some, None}
+use Rattle.ppp_options.specs.declared.number.TheConstants.{OCTETS_U32}
 use Rattle.ppp_auto.specs.Taken.{four_octets}
 use Rattle.ppp_packet.specs.ConfigOption.{ConfigOption}
 
@@ -60,6 +61,6 @@ pick64 word avoid = pick_from (2 ^ 64) (word % 2 ^ 64) avoid
 -- the last one, and else a drawn one. A body of another length changes nothing.
 abbrev pub number_taken : List ℕ → List ℕ → ℕ → List ℕ
 number_taken last nak word =
-    if not (length nak == 4) then last
+    if not (length nak == OCTETS_U32) then last
     else if is_free (number last) (number nak) then nak
     else four_octets (pick word (number last))

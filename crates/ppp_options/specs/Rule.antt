@@ -30,10 +30,12 @@ pub record IsRule (r : Rule) : Type 0 where
   pub first_there : r.required ≡ true → (word : ℕ) → is_some (r.first word) ≡ true
   -- so is what stands after a Nak, where the last body was
   pub after_sent : (last nak : List ℕ) (word : ℕ) → r.is_sent last ≡ true → r.is_sent (r.after last nak word) ≡ true
-  pub after_set : (last nak : List ℕ) (word : ℕ) → r.is_sent last ≡ true → r.is_set last ≡ true → r.is_set (r.after last nak word) ≡ true
+  pub after_set : (last nak : List ℕ) (word : ℕ) → r.is_sent last ≡ true → r.is_set last ≡ true →
+      r.is_set (r.after last nak word) ≡ true
   -- a Nak changes no length
   pub after_long : (last nak : List ℕ) (word : ℕ) → r.is_sent last ≡ true → length (r.after last nak word) ≡ length last
   -- sizes in octets
   pub sent_short : (body : List ℕ) → r.is_sent body ≡ true → 2 + length body ≤ r.most
-  pub good_short : (own : List ConfigOption) (body : List ℕ) → r.is_known body ≡ true → r.is_good own body ≡ true → 2 + length body ≤ r.most
+  pub good_short : (own : List ConfigOption) (body : List ℕ) → r.is_known body ≡ true → r.is_good own body ≡ true →
+      2 + length body ≤ r.most
   pub better_short : (own : List ConfigOption) (body : List ℕ) (word : ℕ) → length (r.better own body word) ≤ 32

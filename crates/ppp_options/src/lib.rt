@@ -12,10 +12,12 @@ mod option_rules;
 mod own_list;
 
 pub use number::{
-    is_free, is_new_u32, is_new_u64, is_within_u16, number_taken, number_u16, number_u32, number_u64, octets_u16,
-    octets_u32, octets_u64, pick, pick64,
+    OCTETS_U16, OCTETS_U32, OCTETS_U64, is_free, is_new_u32, is_new_u64, is_within_u16,
+    number_taken, number_u16, number_u32, number_u64, octets_u16, octets_u32, octets_u64, pick,
+    pick64,
 };
 pub use option_rules::OptionRules;
 pub use own_list::{
-    first_list, first_of, has_option, list_after_nak, list_after_reject, number_of_u32, number_of_u64, sized_of,
+    first_list, first_of, has_option, list_after_nak, list_after_reject, number_of_u32,
+    number_of_u64, sized_of,
 };

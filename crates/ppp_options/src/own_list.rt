@@ -7,9 +7,10 @@ ghost use Rattle.ppp_packet.specs.OptRef.{option_seen};
 ghost use Rattle.ppp_packet.specs.declared.opt_list.TheConstants.{MOST_LIST};
 ghost use Rattle.ppp_auto.specs.Reply.{has_kind};
 ghost use Rattle.ppp_options.specs.Number.{body_of, number_of};
+ghost use Rattle.ppp_options.specs.declared.number.TheConstants.{OCTETS_U32, OCTETS_U64};
 ghost use Rattle.ppp_options.specs.Rules.{initial, option_after, adapt_nak, without};
 
-use crate::number::{number_u32, number_u64};
+use crate::number::{OCTETS_U32, OCTETS_U64, number_u32, number_u64};
 use crate::option_rules::OptionRules;
 use ppp_packet::{OptList, OptRef, Options};
 
@@ -93,9 +94,9 @@ pub fn sized_of<'a>(list: &Options<'a>, kind: u8, size: usize) -> Option<&'a [u8
 
 /// The number of the first option of this Type that has four octets, or 0.
 pub fn number_of_u32(list: &OptList, kind: u8) -> u32
-    ensures { result ≡ number_of kind 4 list.now }
+    ensures { result ≡ number_of kind OCTETS_U32 list.now }
 {
-    match sized_of(&list.options(), kind, 4) {
+    match sized_of(&list.options(), kind, OCTETS_U32) {
         Some(body) => number_u32(body),
         None => 0,
     }
@@ -103,9 +104,9 @@ pub fn number_of_u32(list: &OptList, kind: u8) -> u32
 
 /// The number of the first option of this Type that has eight octets, or 0.
 pub fn number_of_u64(list: &OptList, kind: u8) -> u64
-    ensures { result ≡ number_of kind 8 list.now }
+    ensures { result ≡ number_of kind OCTETS_U64 list.now }
 {
-    match sized_of(&list.options(), kind, 8) {
+    match sized_of(&list.options(), kind, OCTETS_U64) {
         Some(body) => number_u64(body),
         None => 0,
     }

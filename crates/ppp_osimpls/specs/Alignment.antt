@@ -1,4 +1,4 @@
--- The alignment of OSI datagrams (RFC 1377 section 3.2).
+-- The alignment of OSI datagrams (RFC 1377 section 3.1).
 use Rattle.std.specs.Prelude.{ℕ, Bool, ◌&&◌, ◌||◌, ◌==◌, nat_le, List, length}
 use Rattle.ppp_options.specs.Number.{number}
 use Rattle.ppp_osimpls.specs.declared.osi_table.TheConstants.{MOST_ALIGNMENT, EVEN, ODD, ALIGNMENT_OCTETS}

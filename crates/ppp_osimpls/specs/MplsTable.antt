@@ -1,4 +1,4 @@
--- MPLSCP's table (RFC 3032 section 4.3): it has no row, so every option is unknown.
+-- MPLSCP's table (RFC 3032 section 4.4): it has no row, so every option is unknown.
 use Rattle.std.specs.Prelude.{List, []}
 use Rattle.ppp_options.specs.Rule.{Rule}
 

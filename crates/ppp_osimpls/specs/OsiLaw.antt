@@ -8,13 +8,16 @@ use Rattle.ppp_osimpls.specs.Alignment.{is_good_body, is_setting}
 use Rattle.ppp_osimpls.specs.OsiTable.{alignment_rule, osi_rules}
 use Rattle.ppp_osimpls.specs.MplsTable.{mpls_rules}
 
-alignment-first : (align : ℕ) (body : List ℕ) → is_setting align ≡ true → (if align == 0 then None else Some (align ∷ [])) ≡ Some body → is_good_body body ≡ true
+alignment-first : (align : ℕ) (body : List ℕ) → is_setting align ≡ true →
+    (if align == 0 then None else Some (align ∷ [])) ≡ Some body → is_good_body body ≡ true
 alignment-first align body set e = grind (arith, nat_tests)
 
-alignment-after : (last nak : List ℕ) → is_good_body last ≡ true → is_good_body (if is_good_body nak then nak else last) ≡ true
+alignment-after : (last nak : List ℕ) → is_good_body last ≡ true →
+    is_good_body (if is_good_body nak then nak else last) ≡ true
 alignment-after last nak h = grind (arith, nat_tests)
 
-alignment-long : (last nak : List ℕ) → is_good_body last ≡ true → length (if is_good_body nak then nak else last) ≡ length last
+alignment-long : (last nak : List ℕ) → is_good_body last ≡ true →
+    length (if is_good_body nak then nak else last) ≡ length last
 alignment-long last nak h = grind (arith, nat_tests)
 
 alignment-short : (body : List ℕ) → is_good_body body ≡ true → 2 + length body ≤ 3

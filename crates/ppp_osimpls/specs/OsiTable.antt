@@ -1,4 +1,4 @@
--- OSINLCP's table (RFC 1377 section 3.2): its one row.
+-- OSINLCP's table (RFC 1377 section 3.1): its one row.
 use Rattle.std.specs.Prelude.{ℕ, ◌+◌, true, false, ◌==◌, if◌then◌else◌, List, [], ◌∷◌, Some, None}
 use Rattle.ppp_packet.specs.declared.options.TheConstants.{OPTION_HEADER}
 use Rattle.ppp_options.specs.Rule.{Rule}

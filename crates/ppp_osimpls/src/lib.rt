@@ -1,5 +1,5 @@
 //! The options of two network control protocols: OSINLCP's alignment (RFC 1377) and MPLSCP's none (RFC 3032 section
-//! 4.3). Each table is handed to a `ppp_auto::Automaton`. No call takes memory.
+//! 4.4). Each table is handed to a `ppp_auto::Automaton`. No call takes memory.
 #![tactic(auto)]
 
 mod mpls_table;

@@ -1,4 +1,4 @@
-//! MPLSCP's options, of which there are none (RFC 3032 section 4.3).
+//! MPLSCP's options, of which there are none (RFC 3032 section 4.4).
 
 ghost use Rattle.std.specs.Prelude.{◌≡◌, false, refl};
 ghost use Rattle.ppp_packet.specs.Proto.{proto_number};

@@ -1,4 +1,4 @@
-//! OSINLCP's options (RFC 1377 section 3.2).
+//! OSINLCP's options (RFC 1377 section 3.1).
 
 ghost use Rattle.std.specs.Prelude.{◌≡◌, ℕ, false, refl, IsTrue};
 ghost use Rattle.ppp_packet.specs.Proto.{proto_number};
@@ -14,7 +14,7 @@ use ppp_auto::{OptionTable, Verdict};
 use ppp_options::{OptionRules, first_list, list_after_nak, list_after_reject};
 use ppp_packet::{Opt, OptList, OptRef, Options};
 
-/// The Type of an alignment (RFC 1377 section 3.2).
+/// The Type of an alignment (RFC 1377 section 3.1).
 pub const ALIGNMENT: u8 = 1;
 
 /// The octets of an alignment.

@@ -11,11 +11,11 @@ use Rattle.ppp_duet.proofs.SpanLemmas.{narrow_start}
 use Rattle.ppp_script.specs.Event.{steps_in}
 use Rattle.ppp_script.specs.declared.event.Event.{Event}
 use Rattle.ppp_script.specs.declared.event.Event.TheVariants.{Up, Down, AdminOpen, AdminClose, Timeout, Deliver, Lose, Settle, Show}
-use Rattle.ppp_world.specs.Agreement.{AgreesIfOpened, AgreesEverywhere, Fits}
+use Rattle.ppp_world.specs.Agreement.{AgreesIfOpened, AgreesEverywhere}
 use Rattle.ppp_auto.specs.Lawful.{Lawful}
 use Rattle.ppp_lcp.specs.LcpLaw.{lcp_fits, lcp_is_table}
 use Rattle.ppp_lcp.specs.LcpSettings.{IsRanged, LcpSettings}
-use Rattle.ppp_lcp.specs.LcpTable.{lcp_rules, magic_of}
+use Rattle.ppp_lcp.specs.LcpTable.{FitsMagic, lcp_rules, magic_of}
 use Rattle.ppp_options.specs.DiffersLaw.{differs-both_ways}
 use Rattle.ppp_options.specs.RuleLaw.{rules_lawful}
 use Rattle.ppp_options.specs.Rules.{Allows, IsUnknown, Sendable}
@@ -30,14 +30,14 @@ use Rattle.ppp_world.proofs.StepLemmas.{narrow_of, reached_step}
 lcp_terms : LcpSettings → Terms
 lcp_terms s = record { setup = setup_of s; keeps = Sendable (lcp_rules s); unknown = IsUnknown (lcp_rules s); allows = Allows (lcp_rules s) }
 
-lcp_lawful : (s : LcpSettings) → IsRanged s → Lawful (lcp_table s) (Sendable (lcp_rules s)) (IsUnknown (lcp_rules s)) (Allows (lcp_rules s)) Fits
-lcp_lawful s ranged = rules_lawful true (lcp_rules s) magic_of Fits (lcp_is_table s ranged) (lcp_fits s) (differs-both_ways 5 4)
+lcp_lawful : (s : LcpSettings) → IsRanged s → Lawful (lcp_table s) (Sendable (lcp_rules s)) (IsUnknown (lcp_rules s)) (Allows (lcp_rules s)) FitsMagic
+lcp_lawful s ranged = rules_lawful true (lcp_rules s) magic_of FitsMagic (lcp_is_table s ranged) (lcp_fits s) (differs-both_ways 5 4)
 
 -- two Opened ends agree, wherever the steps led
 pub agreed : (s : Settings) → AreRanged s → (d : Duet) → Reached (setup_of s.a) (setup_of s.b) d → AgreesIfOpened s d
 unfolding lcp_terms
 agreed s ranged d r opened =
-    agreement_at Fits (lcp_terms s.a) (lcp_terms s.b) (lcp_lawful s.a ranged.of_a) (lcp_lawful s.b ranged.of_b) d r opened.at_a opened.at_b
+    agreement_at FitsMagic (lcp_terms s.a) (lcp_terms s.b) (lcp_lawful s.a ranged.of_a) (lcp_lawful s.b ranged.of_b) d r opened.at_a opened.at_b
 
 -- each moment of a run goes on from the one before
 abbrev pub Linked : Settings → Place → List Moment → Type 0

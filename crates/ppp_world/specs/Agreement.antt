@@ -10,10 +10,10 @@ use Rattle.ppp_auto.specs.declared.auto_state.AutoState.TheVariants.{Opened}
 use Rattle.ppp_duet.specs.Duet.{Duet, End}
 use Rattle.ppp_duet.specs.Agreement.{Agree}
 use Rattle.ppp_lcp.specs.LcpKind.{kind_number}
-use Rattle.ppp_lcp.specs.LcpSettings.{LcpSettings}
-use Rattle.ppp_lcp.specs.LcpTable.{lcp_rules}
+use Rattle.ppp_lcp.specs.LcpTable.{FitsMagic, lcp_rules}
 use Rattle.ppp_lcp.specs.declared.lcp_kind.LcpKind.TheVariants.{Magic}
-use Rattle.ppp_options.specs.Differs.{Differs, differs}
+use Rattle.ppp_options.specs.Differs.{differs}
+use Rattle.ppp_options.specs.declared.number.TheConstants.{OCTETS_U32}
 use Rattle.ppp_options.specs.Rules.{Allows, Sendable, is_allowed, is_sendable}
 use Rattle.ppp_world.specs.Settings.{Settings}
 use Rattle.ppp_world.specs.declared.step.TheConstants.{ONLY_LINK}
@@ -41,10 +41,7 @@ terms_of e = if is_opened e.auto.state then Some (terms_at e) else None
 
 -- two lists of LCP fit where they don't have the same Magic-Number (RFC 1661 section 6.4)
 abbrev pub fits : List ConfigOption → List ConfigOption → Bool
-fits one other = differs (kind_number Magic) 4 one other
-
-abbrev pub Fits : List ConfigOption → List ConfigOption → Type 0
-Fits = Differs (kind_number Magic) 4
+fits one other = differs (kind_number Magic) OCTETS_U32 one other
 
 -- Whether they pass: each one's list is what the other acknowledged last, may be asked for and was allowed against the
 -- other's list of that moment, and the two lists fit.
@@ -87,7 +84,7 @@ pub record AreOpenedAt (link : ℕ) (proto : Proto) (d : Duet) : Type 0 where
 abbrev pub AgreesIfOpened : Settings → Duet → Type 0
 AgreesIfOpened s d =
     AreOpened d
-    → Agree (Sendable (lcp_rules s.a)) (Sendable (lcp_rules s.b)) (Allows (lcp_rules s.a)) (Allows (lcp_rules s.b)) Fits d
+    → Agree (Sendable (lcp_rules s.a)) (Sendable (lcp_rules s.b)) (Allows (lcp_rules s.a)) (Allows (lcp_rules s.b)) FitsMagic d
 
 -- In a state two Opened ends of a protocol agree on each link, and no report of it says that they don't.
 pub record AgreesAt (s : Settings) (link : ℕ) (proto : Proto) (d : Duet) : Type 0 where
