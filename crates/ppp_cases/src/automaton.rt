@@ -1,7 +1,8 @@
 //! The automaton over LCP's table, by packets that were worked out by hand from RFC 1661.
 
-use crate::lcp::LcpTable;
 use ppp_auto::{AutoEvent, AutoState, Automaton, EntryRef, LayerSignal, Outbox};
+use ppp_lcp::{DEFAULT_ACCM, DEFAULT_MRU, LcpTable};
+use ppp_packet::Disc;
 use std::test::Fail;
 
 /// What happens at an end: an event without a packet, or a packet that comes.
@@ -76,7 +77,19 @@ fn take(automaton: &mut Automaton<LcpTable>, step: Step, word: u64, out: &mut Ou
 
 /// A new end that asks for a Magic-Number alone, after steps.
 fn end_after(steps: &[Step], out: &mut Outbox) -> Automaton<LcpTable> {
-    let mut automaton = Automaton::new(LcpTable::new(1500, true), 1);
+    let table = LcpTable {
+        mru: DEFAULT_MRU,
+        accm: DEFAULT_ACCM,
+        magic: true,
+        mrru: 0,
+        short: false,
+        classes: 0,
+        disc: Disc::new(0, &[]),
+        link_disc: None,
+        pfc: false,
+        acfc: false,
+    };
+    let mut automaton = Automaton::new(table, 1);
     for step in steps {
         take(&mut automaton, *step, OWN, out);
     }

@@ -3,6 +3,8 @@
 #![tactic(auto)]
 
 #[cfg(test)]
+mod automaton;
+#[cfg(test)]
 mod frame;
 #[cfg(test)]
 mod io;

@@ -165,9 +165,15 @@ fn replies_to_words_and_settings(rt: HostRuntime) {
         // settings that end with LF or with the input
         (REPLAY, "version = 1\n", Status::Ok, ""),
         (REPLAY, "version = 1", Status::Ok, ""),
-        // settings that aren't built
-        (REPLAY, "", Status::NotBuilt, "not built\n"),
-        (REPLAY, "version = 3", Status::NotBuilt, "not built\n"),
+        // settings that are refused
+        (REPLAY, "", Status::BadConfig, "config version Missing\n"),
+        (
+            REPLAY,
+            "version = 3",
+            Status::BadConfig,
+            "config version Range\n",
+        ),
+        // and those that aren't built
         (
             REPLAY,
             "version = 1\nlinks = 2\n---\nshow\n",
@@ -224,10 +230,58 @@ fn shows_what_a_capture_holds(rt: HostRuntime) {
 }
 
 #[test]
+fn both_ends_ask_for_what_their_settings_have(rt: HostRuntime) {
+    let lines = "---\nup a 1\nopen a 1 lcp\nup b 1\nopen b 1 lcp\nsettle 10\nshow\n";
+    // the settings, the status, and the output
+    let rows: [(&str, Status, &str); 6] = [
+        // short headers at one end
+        (
+            "version = 2\n[a]\npfc = true\nacfc = true\n",
+            Status::Ok,
+            "show 15\n1 lcp Opened Opened 05060000000407020802 050600000009 050600000009 05060000000407020802 agree yes\n",
+        ),
+        // a unit, a map and no number at one end, and no option at the other
+        (
+            "version = 1\na.mru = 512\na.accm = 0\na.magic = false\nb.magic = false\n",
+            Status::Ok,
+            "show 15\n1 lcp Opened Opened 01040200020600000000 empty empty 01040200020600000000 agree yes\n",
+        ),
+        // a number out of its range, a rule that is broken, and a key that isn't known
+        (
+            "version = 1\na.mru = 127\n",
+            Status::BadConfig,
+            "config a.mru Range\n",
+        ),
+        (
+            "version = 1\nb.bap = true\n",
+            Status::BadConfig,
+            "config b.bap Rule\n",
+        ),
+        (
+            "version = 1\na.pfc = true\n",
+            Status::BadConfig,
+            "config a.pfc Unknown\n",
+        ),
+        // a network protocol isn't built
+        (
+            "version = 1\nb.protocols = [\"ip\"]\n",
+            Status::NotBuilt,
+            "not built\n",
+        ),
+    ];
+    for (settings, status, output) in rows {
+        let input = repeating(rt.alloc(), &rt, settings, "", 0, lines);
+        let (answered, written) = run_over(rt.alloc(), &rt, REPLAY, input.as_bytes());
+        assert_eq!(rt; answered, status, "at {settings:?}");
+        assert_eq!(rt; written.as_slice(), output.as_bytes(), "at {settings:?}");
+    }
+}
+
+#[test]
 fn an_octet_above_1048576_is_too_long(rt: HostRuntime) {
-    // the settings of so many octets aren't built
+    // settings that are a comment alone
     let rows: [(usize, Status, &str); 2] = [
-        (1_048_576, Status::NotBuilt, "not built\n"),
+        (1_048_576, Status::BadConfig, "config version Missing\n"),
         (1_048_577, Status::TooLong, "too long\n"),
     ];
     for (length, status, output) in rows {
@@ -269,6 +323,7 @@ fn each_status_has_its_number(rt: HostRuntime) {
         (Status::BadWords, 2),
         (Status::ReadFault, 3),
         (Status::TooLong, 4),
+        (Status::BadConfig, 5),
         (Status::BadLine(1), 6),
         (Status::Outstanding(1), 7),
         (Status::WriteFault, 9),

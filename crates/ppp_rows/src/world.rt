@@ -2,6 +2,7 @@
 
 ghost use Rattle.std.specs.Prelude.{◌≡◌, None};
 
+use ppp_conf::read_config;
 use ppp_packet::Proto;
 use ppp_script::{End, Event, steps_of};
 use ppp_world::World;
@@ -20,7 +21,10 @@ fn step(rt: &impl Abort, world: &mut World, event: &Event)
 
 #[test]
 fn two_opened_ends_agree(rt: HostRuntime) {
-    let mut world = World::new(rt.alloc()).expect(&rt, "memory");
+    let Ok(config) = read_config(rt.alloc(), b"version = 1") else {
+        panic!(&rt; "these settings are refused");
+    };
+    let mut world = World::new(rt.alloc(), &config).expect(&rt, "memory");
     assert_eq!(rt; world.agree(1, Proto::Lcp), None);
     step(&rt, &mut world, &Event::Up(End::A, 1));
     step(&rt, &mut world, &Event::AdminOpen(End::A, 1, Proto::Lcp));
