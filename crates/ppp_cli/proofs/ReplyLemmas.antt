@@ -3,8 +3,8 @@ use Rattle.std.proofs.Common.{◌≡◌, ℕ, List, refl, sym, ap, ◌∙◌}
 use Rattle.std.specs.Prelude.{Option, Some, None, Result, Ok, Err, IfOk}
 use Rattle.ppp_cli.specs.Reply.{Reply, reply_to_replay, reply_to_run, reply_to_settings, says, says_with}
 use Rattle.ppp_cli.specs.declared.status.Status.TheVariants.{Ok as Fine}
-use Rattle.ppp_conf.specs.Config.{Settings as Config', IsConfig, config_of, config_seen}
-use Rattle.ppp_conf.specs.Refusal.{HasRead, Refusal as ConfRefusal}
+use Rattle.ppp_conf.specs.Config.{Settings as Config', config_of, config_seen}
+use Rattle.ppp_conf.specs.Refusal.{Refusal as ConfRefusal}
 use Rattle.ppp_conf.specs.declared.config.Config.{Config}
 use Rattle.ppp_text.specs.Parts.{settings_in, script_in}
 use Rattle.ppp_world.specs.Run.{Moment, before_refusal, refusal, report}
@@ -16,15 +16,11 @@ if_ok_map (Ok x) p map = map x p
 if_ok_map (Err e) p map = tt
 
 -- the settings that were read are those of the text
-set_reply : (read : Result Config' ConfRefusal) (c : Config) (script : List ℕ) → HasRead IsConfig read c → reply_to_settings (Ok (config_seen c)) script ≡ reply_to_settings read script
-set_reply (Ok s) c script is = ap (λ (x : Config'). reply_to_settings (Ok x) script) (sym is)
-set_reply (Err refused) c script is = absurd is
-
-pub replay_reply : (text settings script : List ℕ) (c : Config) (reply : Reply) → settings ≡ settings_in text → script ≡ script_in text → HasRead IsConfig (config_of settings) c →
+pub replay_reply : (text settings script : List ℕ) (c : Config) (reply : Reply) → settings ≡ settings_in text → script ≡ script_in text → config_of settings ≡ Ok (config_seen c) →
     reply ≡ reply_to_settings (Ok (config_seen c)) script → reply ≡ reply_to_replay text
 unfolding reply_to_replay
 replay_reply text settings script c reply set_is script_is read is =
-    is ∙ set_reply (config_of settings) c script read
+    is ∙ ap (λ (x : Result Config' ConfRefusal). reply_to_settings x script) (sym read)
     ∙ (λ i. reply_to_settings (config_of (set_is i)) (script_is i))
 
 -- what a replay came to is what the run replies
