@@ -148,17 +148,17 @@ static LISTS: [(&[u8], &[u8], AutoState); 9] = [
         AutoState::ReqSent,
     ),
     // options that aren't known: they alone are rejected, before any other is refused
-    (&[1, 1, 0, 6, 7, 2], &[4, 1, 0, 6, 7, 2], AutoState::ReqSent),
+    (&[1, 1, 0, 6, 9, 2], &[4, 1, 0, 6, 9, 2], AutoState::ReqSent),
     (
         &[
-            1, 1, 0, 20, 13, 6, 0, 0, 0, 0, 5, 6, 0xaa, 0xbb, 0xcc, 0xdd, 7, 2, 8, 2,
+            1, 1, 0, 20, 13, 6, 0, 0, 0, 0, 5, 6, 0xaa, 0xbb, 0xcc, 0xdd, 9, 2, 10, 2,
         ],
-        &[4, 1, 0, 14, 13, 6, 0, 0, 0, 0, 7, 2, 8, 2],
+        &[4, 1, 0, 14, 13, 6, 0, 0, 0, 0, 9, 2, 10, 2],
         AutoState::ReqSent,
     ),
     (
-        &[1, 6, 0, 10, 1, 4, 0, 0x40, 7, 2],
-        &[4, 6, 0, 6, 7, 2],
+        &[1, 6, 0, 10, 1, 4, 0, 0x40, 9, 2],
+        &[4, 6, 0, 6, 9, 2],
         AutoState::ReqSent,
     ),
 ];

@@ -171,6 +171,7 @@ fn hostile_streams_end_at_their_flags(rt: HostRuntime) -> Result<(), Fail> {
         assert!(rt; answer(&rt, &mut deframer, other, 7) == Got::Frame);
         check_frame(&rt, &deframer, protocol, info);
     }
+    deframer.set_short(true, true);
     for (_, _, _, octets) in &FRAMES {
         for cut in 1..octets.len() {
             let lacks_the_last_flag = cut + 1 == octets.len();
