@@ -78,6 +78,15 @@ fn frames_are_written_as_the_table_says_and_read_back(rt: HostRuntime) -> Result
 }
 
 #[test]
+fn information_of_8192_octets_is_the_most(rt: HostRuntime) -> Result<(), Fail> {
+    let mut out = FrameBuf::new(rt.alloc())?;
+    let info = vec![in rt.alloc(); 0; 8193]?;
+    assert!(rt; encode(&mut out, WHOLE, 0xc021, &info).is_err());
+    assert!(rt; encode(&mut out, WHOLE, 0xc021, &info[..8192]).is_ok());
+    Ok(())
+}
+
+#[test]
 fn a_frame_cut_in_an_escape_is_one_frame(rt: HostRuntime) -> Result<(), Fail> {
     let (_, protocol, info, octets) = FRAMES[2];
     let mut deframer = Deframer::new(rt.alloc(), 8200)?;

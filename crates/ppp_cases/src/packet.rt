@@ -61,6 +61,10 @@ fn keeps_single_values(rt: HostRuntime) {
     assert!(rt; Disc::new(1, &[9]) < Disc::new(3, &[1]));
     assert!(rt; DiscClass::try_from(DiscClass::Mac.number()) == Ok(DiscClass::Mac));
     assert!(rt; DiscClass::Mac.has_size(6));
+    assert!(rt; DiscClass::Local.has_size(20) && !DiscClass::Local.has_size(21));
+    assert!(rt;
+        DiscClass::DirectoryNumber.has_size(15) && !DiscClass::DirectoryNumber.has_size(16)
+    );
     read_again();
 }
 

@@ -230,6 +230,38 @@ fn shows_what_a_capture_holds(rt: HostRuntime) {
 }
 
 #[test]
+fn a_frame_of_8201_octets_is_oversize(rt: HostRuntime) {
+    let rows: [(u32, &str); 2] = [(8_200, "discard BadFcs\n"), (8_201, "discard Oversize\n")];
+    for (count, output) in rows {
+        let capture = repeating(rt.alloc(), &rt, "7e", "00", count, "7e\n");
+        let (answered, written) = run_over(rt.alloc(), &rt, SHOW, capture.as_bytes());
+        assert_eq!(rt; answered, Status::Ok, "at {count}");
+        assert_eq!(rt; written.as_slice(), output.as_bytes(), "at {count}");
+    }
+}
+
+#[test]
+fn a_socket_of_65_letters_has_no_form(rt: HostRuntime) {
+    let rows: [(u32, Status, &str); 2] = [
+        (64, Status::Ok, ""),
+        (65, Status::BadConfig, "config a.socket Form\n"),
+    ];
+    for (count, status, output) in rows {
+        let input = repeating(
+            rt.alloc(),
+            &rt,
+            "version = 1\na.socket = \"",
+            "a",
+            count,
+            "\"\n",
+        );
+        let (answered, written) = run_over(rt.alloc(), &rt, REPLAY, input.as_bytes());
+        assert_eq!(rt; answered, status, "at {count}");
+        assert_eq!(rt; written.as_slice(), output.as_bytes(), "at {count}");
+    }
+}
+
+#[test]
 fn both_ends_ask_for_what_their_settings_have(rt: HostRuntime) {
     let lines = "---\nup a 1\nopen a 1 lcp\nup b 1\nopen b 1 lcp\nsettle 10\nshow\n";
     // the settings, the status, and the output
