@@ -1,3 +1,4 @@
+pub mod Fits
 pub mod IpcpLaw
 pub mod IpcpTable
 pub mod Ipv6Law

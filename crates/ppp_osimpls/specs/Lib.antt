@@ -1,4 +1,5 @@
 pub mod Alignment
+pub mod Fits
 pub mod MplsTable
 pub mod OsiLaw
 pub mod OsiTable
