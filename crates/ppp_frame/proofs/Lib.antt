@@ -4,6 +4,7 @@ pub mod EscapesLemmas
 pub mod FcsLemmas
 pub mod FrameLemmas
 pub mod HeaderLemmas
+pub mod LanesLemmas
 pub mod RoundTripLemmas
 pub mod StandardFacts
 pub mod StandingLemmas

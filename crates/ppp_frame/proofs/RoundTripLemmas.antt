@@ -6,11 +6,11 @@ use Rattle.std.proofs.lemmas.List.{take_at}
 use Rattle.ppp_frame.specs.declared.escapes.TheConstants.{FLAG, ESCAPE}
 use Rattle.ppp_frame.specs.declared.form.Form.{Form}
 use Rattle.ppp_frame.specs.Deframer.{DeframerState, TakesWhole, ends_by, feed_step, flag_at, idle, run_in, run_length}
-use Rattle.ppp_frame.specs.Escapes.{Escapes, HasNoFlag, StandsFor, unstuffed}
+use Rattle.ppp_frame.specs.Escapes.{Escapes, HasNoFlag, StandsFor}
 use Rattle.ppp_frame.specs.Fcs.{checked, fcs_octets}
 use Rattle.ppp_frame.specs.Frame.{enc, inside}
 use Rattle.ppp_frame.specs.Header.{ReadsBack, address_octets, header_of, headed, is_short, leaves_out, protocol_octets, reads}
-use Rattle.ppp_frame.specs.Standing.{Standing, after, fresh, verdict_at}
+use Rattle.ppp_frame.specs.Standing.{after, fresh, verdict_at}
 use Rattle.ppp_frame.specs.Stream.{is_flag}
 use Rattle.ppp_frame.specs.Verdict.{Reader, Taken, answer_of}
 use Rattle.ppp_frame.proofs.DeframerLemmas.{step_ends}

@@ -34,9 +34,9 @@ deframer_seen d = record {
 abbrev pub LiesWithin : ℕ → Lent → Type 0
 LiesWithin limit l = (l.start ≤ l.end) × (l.end ≤ limit)
 
--- one place more than the limit is taken, so that an escape can be written before it is known for one
+-- eight places more than the limit are taken, so that eight octets can be written before it is known how many of them count
 pub record IsDeframer (d : Inside) : Type 0 where
-  pub room : length d.room.items ≡ d.limit + 1
+  pub room : length d.room.items ≡ d.limit + 8
   pub within : d.held ≤ d.limit
   pub dropped : d.past ≡ true → d.held ≡ 0
   pub running : d.running ≡ fcs_run 0xffff (take d.held d.room.items)

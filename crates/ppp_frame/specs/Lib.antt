@@ -6,6 +6,7 @@ pub mod Frame
 pub mod FrameBuf
 pub mod FrameRef
 pub mod Header
+pub mod Lanes
 pub mod Spelling
 pub mod Standing
 pub mod Stream

@@ -57,13 +57,13 @@ impl Model for Deframer {
 
 impl Deframer {
     /// Stands as after a flag, and reads whole headers alone. A frame has at most `limit` octets, escapes undone, with header
-    /// and check sequence. It takes one octet more than the limit, and is refused for want of memory alone.
+    /// and check sequence. It takes eight octets more than the limit, and is refused for want of memory alone.
     pub fn new(alloc: Global, limit: usize) -> Result<Deframer, Memory>
         ensures stands { IfOk result (λ d. Stands d []) }
         ensures reader { IfOk result (λ d. d.reader ≡ whole_headers limit) }
         ensures frame { IfOk result (λ d. d.frame ≡ None) }
     {
-        let Some(size) = limit.checked_add(1) else {
+        let Some(size) = limit.checked_add(8) else {
             return Err(Memory);
         };
         Ok(Deframer {
@@ -228,7 +228,7 @@ impl Deframer {
 /// Keeps what is read of `run` in `room`, from `held` on. It answers how much is held then, whether the last octet was an
 /// escape, and the running value.
 fn keep(room: &mut [u8], held: usize, escaped: bool, running: u16, run: &[u8]) -> (usize, bool, u16)
-    requires { held + length (unstuffed escaped run.now) < length room.old }
+    requires { held + length (unstuffed escaped run.now) + 8 ≤ length room.old }
     ensures held { result.0 ≡ held + length (unstuffed escaped run.now) }
     ensures escaped { result.1 ≡ escaped_after escaped run.now }
     ensures running { result.2 ≡ fcs_run running (unstuffed escaped run.now) }

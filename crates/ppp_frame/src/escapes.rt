@@ -4,6 +4,7 @@ ghost use Rattle.std.specs.Prelude.{◌≡◌, ◌+◌, ◌*◌, ◌≤◌, ◌<
 ghost use Rattle.std.specs.List.{list_any};
 ghost use Rattle.ppp_frame.specs.Escapes.{escaped_after, is_escape, is_special, must_escape, opens as opens_escape, stuffed, unstuffed};
 
+use crate::lanes::{escapes_in, loaded, remaining_lanes, store, turned_lanes};
 use crate::spelling::Spelling;
 
 /// The octet between two frames (RFC 1662 section 3.1).
@@ -107,7 +108,7 @@ fn width(pair: u16) -> usize
 /// Writes what is read of `run` into `room` from `at` on, where the octet before it was an escape or not. It answers where
 /// that ends, and whether the last octet was an escape.
 pub(crate) fn unstuff(room: &mut [u8], at: usize, escaped: bool, run: &[u8]) -> (usize, bool)
-    requires { at + length (unstuffed escaped run.now) < length room.old }
+    requires { at + length (unstuffed escaped run.now) + 8 ≤ length room.old }
     ensures end { result.0 ≡ at + length (unstuffed escaped run.now) }
     ensures escaped { result.1 ≡ escaped_after escaped run.now }
     ensures written { take result.0 room.new ≡ take at room.old ++ unstuffed escaped run.now }
@@ -120,22 +121,64 @@ pub(crate) fn unstuff(room: &mut [u8], at: usize, escaped: bool, run: &[u8]) -> 
         (end, behind) = unstuff_block(room, end, behind, block);
         rest = more;
     }
-    unstuff_each(room, end, behind, rest)
+    unstuff_eights(room, end, behind, rest)
 }
 
 #[inline(always)]
 fn unstuff_block(room: &mut [u8], at: usize, escaped: bool, block: &[u8]) -> (usize, bool)
-    requires { at + length (unstuffed escaped block.now) < length room.old }
+    requires { at + length (unstuffed escaped block.now) + 8 ≤ length room.old }
     ensures end { result.0 ≡ at + length (unstuffed escaped block.now) }
     ensures escaped { result.1 ≡ escaped_after escaped block.now }
     ensures written { take result.0 room.new
         ≡ take at room.old ++ unstuffed escaped block.now }
 {
     if escaped || has_escape(block) {
-        return unstuff_each(room, at, escaped, block);
+        return unstuff_eights(room, at, escaped, block);
     }
     copy_block(room, at, block);
     (at + block.len(), false)
+}
+
+#[inline(always)]
+fn unstuff_eights(room: &mut [u8], at: usize, escaped: bool, run: &[u8]) -> (usize, bool)
+    requires { at + length (unstuffed escaped run.now) + 8 ≤ length room.old }
+    ensures end { result.0 ≡ at + length (unstuffed escaped run.now) }
+    ensures escaped { result.1 ≡ escaped_after escaped run.now }
+    ensures written { take result.0 room.new ≡ take at room.old ++ unstuffed escaped run.now }
+{
+    let mut end = at;
+    let mut behind = escaped;
+    let mut rest = run;
+    'eights: while rest.len() >= 8 {
+        let (eight, more) = rest.split_at(8);
+        (end, behind) = unstuff_eight(room, end, behind, eight);
+        rest = more;
+    }
+    unstuff_each(room, end, behind, rest)
+}
+
+/// Eight octets at once where no escape stands behind an escape, as in what a sender writes.
+#[inline(always)]
+fn unstuff_eight(room: &mut [u8], at: usize, escaped: bool, eight: &[u8]) -> (usize, bool)
+    requires eight { length eight.now ≡ 8 }
+    requires room { at + length (unstuffed escaped eight.now) + 8 ≤ length room.old }
+    ensures end { result.0 ≡ at + length (unstuffed escaped eight.now) }
+    ensures escaped { result.1 ≡ escaped_after escaped eight.now }
+    ensures written { take result.0 room.new
+        ≡ take at room.old ++ unstuffed escaped eight.now }
+{
+    let octets = loaded(eight);
+    let escapes = escapes_in(octets);
+    let before = 2 * escapes + carried(escaped);
+    if escapes & before != 0 {
+        return unstuff_each(room, at, escaped, eight);
+    }
+    store(
+        room,
+        at,
+        remaining_lanes(turned_lanes(escaped, octets), escapes),
+    );
+    (at + 8 - escapes.count_ones() as usize, before >= 256)
 }
 
 #[inline(always)]
@@ -215,6 +258,14 @@ fn as_read(escaped: bool, octet: u8) -> u8
     ensures { result ≡ (if escaped then bit_xor octet TOGGLE else octet) }
 {
     if escaped { octet ^ TOGGLE } else { octet }
+}
+
+/// The bit before the first octet's.
+#[inline(always)]
+fn carried(escaped: bool) -> u64
+    ensures { result ≡ (if escaped then 1 else 0) }
+{
+    if escaped { 1 } else { 0 }
 }
 
 /// How many octets are read of one that opens an escape or not.
