@@ -67,16 +67,26 @@ step_is fcs octet =
 head_of_eight : (p q r : ℕ) → bit_xor (bit_xor p q) r ≡ bit_xor q (bit_xor p r)
 head_of_eight p q r = ap (λ x. bit_xor x r) (xor_comm p q) ∙ xor_assoc q p r
 
--- eight octets, each through a table of its own
+last_again : (p q s r : ℕ) → bit_xor p (bit_xor q (bit_xor s r)) ≡ bit_xor q (bit_xor s (bit_xor p r))
+last_again p q s r =
+    sym (xor_assoc p q _) ∙ ap (λ x. bit_xor x (bit_xor s r)) (xor_comm p q) ∙ xor_assoc q p _
+    ∙ ap (bit_xor q) (sym (xor_assoc p s _) ∙ ap (λ x. bit_xor x r) (xor_comm p s) ∙ xor_assoc s p _)
+
+-- several octets, each through a table of its own
 pub eight_steps : (fcs a b c d e f g h : ℕ) → fcs_run fcs (a ∷ b ∷ c ∷ d ∷ e ∷ f ∷ g ∷ h ∷ []) ≡ bit_xor (bit_xor (shifted_by 8 (bit_xor (fcs % 256) a)) (shifted_by 7 (bit_xor (fcs / 256) b))) (bit_xor (bit_xor (bit_xor (bit_xor (bit_xor (shifted_by 6 c) (shifted_by 5 d)) (shifted_by 4 e)) (shifted_by 3 f)) (shifted_by 2 g)) (shifted_by 1 h))
 eight_steps fcs a b c d e f g h =
     rw (step_is fcs a) (simp (shifted-xor, xor_assoc) (
-    head_again (shifted_by 7 (fcs / 256)) (shifted_by 8 (fcs % 256)) (shifted_by 8 a) (shifted_by 7 b) _))
-  where
-    head_again : (p q s r rest : ℕ) → bit_xor p (bit_xor q (bit_xor s (bit_xor r rest))) ≡ bit_xor q (bit_xor s (bit_xor p (bit_xor r rest)))
-    head_again p q s r rest =
-        sym (xor_assoc p q _) ∙ ap (λ x. bit_xor x (bit_xor s (bit_xor r rest))) (xor_comm p q) ∙ xor_assoc q p _
-        ∙ ap (bit_xor q) (sym (xor_assoc p s _) ∙ ap (λ x. bit_xor x (bit_xor r rest)) (xor_comm p s) ∙ xor_assoc s p _)
+    last_again (shifted_by 7 (fcs / 256)) (shifted_by 8 (fcs % 256)) (shifted_by 8 a) (bit_xor (shifted_by 7 b) _)))
+
+pub four_steps : (fcs a b c d : ℕ) → fcs_run fcs (a ∷ b ∷ c ∷ d ∷ []) ≡ bit_xor (bit_xor (shifted_by 4 (bit_xor (fcs % 256) a)) (shifted_by 3 (bit_xor (fcs / 256) b))) (bit_xor (shifted_by 2 c) (shifted_by 1 d))
+four_steps fcs a b c d =
+    rw (step_is fcs a) (simp (shifted-xor, xor_assoc) (
+    last_again (shifted_by 3 (fcs / 256)) (shifted_by 4 (fcs % 256)) (shifted_by 4 a) (bit_xor (shifted_by 3 b) _)))
+
+pub two_steps : (fcs a b : ℕ) → fcs_run fcs (a ∷ b ∷ []) ≡ bit_xor (shifted_by 2 (bit_xor (fcs % 256) a)) (shifted_by 1 (bit_xor (fcs / 256) b))
+two_steps fcs a b =
+    rw (step_is fcs a) (simp (shifted-xor, xor_assoc) (
+    last_again (shifted_by 1 (fcs / 256)) (shifted_by 2 (fcs % 256)) (shifted_by 2 a) (shifted_by 1 b)))
 
 -- an entry of a table that was computed
 pub get_or-table : (f : ℕ → ℕ) (table : List ℕ) (k d : ℕ) → map f (range_with_len 0 256) ≡ table → k < 256 → get_or table k d ≡ f k

@@ -1,4 +1,4 @@
-use Rattle.std.proofs.Common.{◌≡◌, length, drop}
+use Rattle.std.proofs.Common.{◌≡◌, length}
 use Rattle.ppp_frame.specs.Fcs.{fcs_run}
 use Rattle.ppp_frame.proofs.check_sequence.after_octets.Given as goal
 
@@ -7,6 +7,3 @@ invariant-eights l = fcs_run l.running l.rest ≡ fcs_run l.fn.fcs l.fn.octets
 
 abbrev pub decreases-eights : goal.decreases-eights
 decreases-eights l = length l.rest
-
-abbrev pub invariant-loop-octet : goal.invariant-loop-octet
-invariant-loop-octet l = fcs_run l.running (drop l.octet-index l.octet-items) ≡ fcs_run l.fn.fcs l.fn.octets
