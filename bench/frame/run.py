@@ -6,7 +6,8 @@ Run by hand at the top of the repository; it needs gcc, and proves and builds ma
     bench/frame/run.py [ROOM [ROUNDS]]
 
 ROOM is a folder that keeps the built program; without one it is made anew. What a run takes that only prepares is taken off.
-The numbers are processor time, the least of the rounds, the two programs by turns."""
+The numbers are processor time, the least of the rounds, the two programs by turns. The rounds are many and short, so that some
+fall into moments when a machine that is shared is quiet."""
 import os
 import resource
 import shutil
@@ -19,7 +20,7 @@ TOP = os.path.dirname(os.path.dirname(HERE))
 KINDS = [("random", 1500), ("random", 64), ("zeros", 1500)]
 MAPS = [0, 0xFFFFFFFF]
 FRAMES = 64
-OCTETS = 100_000_000
+OCTETS = 25_000_000
 CRATES = "ppp_memory: thiserror\nppp_frame: ppp_memory memchr thiserror\nframe_bench: ppp_frame anyhow\n"
 
 
@@ -52,7 +53,7 @@ def seconds(program, words):
 
 def main():
     room = sys.argv[1] if len(sys.argv) > 1 else tempfile.mkdtemp()
-    rounds = int(sys.argv[2]) if len(sys.argv) > 2 else 5
+    rounds = int(sys.argv[2]) if len(sys.argv) > 2 else 20
     pair = built(room)
     print("| Information | Map | Work | Program, MB/s | Plain, MB/s | Ratio |\n|---|---|---|---|---|---|")
     for kind, size in KINDS:
