@@ -73,9 +73,16 @@ pub refused_as : (result : Result Config ConfFault) (fault given : ConfFault) (r
 refused_as result fault given read other is same reads refused = rw (is, same, reads) refused
 
 -- a text in UTF-8 that parses
-pub config_of-some : (text : List ℕ) (top : Members) → IsUtf8 text → parse_document text ≡ Some top → config_of text ≡ settings_of (record { prefix = []; members = top })
+pub toml_of-some : (text : List ℕ) (top : Members) → IsUtf8 text → parse_document text ≡ Some top → toml_of text ≡ Some top
+toml_of-some text top utf8 parsed = rw (is_utf8-from_IsUtf8 text utf8, parsed) refl
+
+-- a text that is a document
+pub config_of-toml : (text : List ℕ) (top : Members) → toml_of text ≡ Some top → config_of text ≡ settings_of (record { prefix = []; members = top })
 unfolding config_of
-config_of-some text top utf8 parsed = rw (is_utf8-from_IsUtf8 text utf8, parsed) refl
+config_of-toml text top is = rw is refl
+
+pub config_of-some : (text : List ℕ) (top : Members) → IsUtf8 text → parse_document text ≡ Some top → config_of text ≡ settings_of (record { prefix = []; members = top })
+config_of-some text top utf8 parsed = config_of-toml text top (toml_of-some text top utf8 parsed)
 
 none_at : (utf8 : Bool) (text : List ℕ) → is_utf8 text ≡ utf8 → (IsUtf8 text → parse_document text ≡ None) → toml_of text ≡ None
 none_at true text is none = rw (is, none (IsUtf8-from_is_utf8 text is)) refl

@@ -5,13 +5,13 @@ use Rattle.toml.specs.Parse.{parse_document}
 use Rattle.toml.specs.Data.{Members, no_members, get_member, integer, table, members_depth}
 use Rattle.ppp_conf.specs.declared.config.Config.{Config}
 use Rattle.ppp_conf.specs.declared.unknown.Level.TheVariants.{Top, End}
-use Rattle.ppp_conf.specs.Config.{config_of, settings_of, config_seen}
+use Rattle.ppp_conf.specs.Config.{config_of, settings_of, config_seen, toml_of}
 use Rattle.ppp_conf.specs.ConfigText.{top_fields, top_table}
 use Rattle.ppp_conf.specs.EndConfig.{EndSettings, end_of, end_seen}
 use Rattle.ppp_conf.specs.EndTable.{end_table}
 use Rattle.ppp_conf.specs.Keys.{Given}
 use Rattle.ppp_conf.specs.Unknown.{knows, least_unknown}
-use Rattle.ppp_conf.proofs.ConfigLemmas.{config_of-some, settings_of-both}
+use Rattle.ppp_conf.proofs.ConfigLemmas.{config_of-toml, settings_of-both, toml_of-some}
 use Rattle.ppp_conf.proofs.EndTableLemmas.{back_whole, end_of-table, known-table, depth-table}
 use Rattle.ppp_conf.proofs.FieldsLemmas.{get-all, known-all, none_unknown, depth-all}
 
@@ -45,10 +45,14 @@ depth-top c =
     let b : members_depth (end_table (end_seen c.b)) ≤ 1 = depth-table (end_seen c.b) in
     depth-all 2 (top_fields (config_seen c)) no_members (lit≤ tt, (lit≤ tt, (omega arith, (omega arith, tt)))) (lit≤ tt)
 
--- a text that reads as the printed table reads as the settings
-pub config_of-printed : (c : Config) (text : List ℕ) (printed : Members) → printed ≡ top_table (config_seen c) → IsUtf8 text → (members_depth printed ≤ 80 → parse_document text ≡ Some printed) →
-    config_of text ≡ Ok (config_seen c)
-config_of-printed c text printed is utf8 reads =
+-- a text that parses as the printed table is that document
+pub toml_of-printed : (c : Config) (text : List ℕ) (printed : Members) → printed ≡ top_table (config_seen c) → IsUtf8 text → (members_depth printed ≤ 80 → parse_document text ≡ Some printed) →
+    toml_of text ≡ Some (top_table (config_seen c))
+toml_of-printed c text printed is utf8 reads =
     let depth : members_depth (top_table (config_seen c)) ≤ 2 = depth-top c in
     let shallow : members_depth printed ≤ 80 = rw is (omega arith) in
-    config_of-some text printed utf8 (reads shallow) ∙ rw is (settings_of-table c)
+    toml_of-some text printed utf8 (reads shallow) ∙ rw is refl
+
+-- a text that is the printed document reads as the settings
+pub config_of-printed : (c : Config) (text : List ℕ) → toml_of text ≡ Some (top_table (config_seen c)) → config_of text ≡ Ok (config_seen c)
+config_of-printed c text is = config_of-toml text (top_table (config_seen c)) is ∙ settings_of-table c

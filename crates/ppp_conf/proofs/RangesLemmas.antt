@@ -1,5 +1,5 @@
 -- The settings that a text reads as are within their ranges and break no rule.
-use Rattle.std.proofs.Common.{◌≡◌, ℕ, ◌-◌, ◌/◌, Bool, true, false, List, [], ◌∷◌, ◌++◌, length, refl, sym, ap, subst, ◌∙◌}
+use Rattle.std.proofs.Common.{◌≡◌, ℕ, ◌-◌, ◌/◌, Bool, true, false, List, [], ◌∷◌, ◌++◌, length, refl, ap, subst, ◌∙◌}
 use Rattle.std.specs.Prelude.{ℤ, pos, negsuc, ok_or, Option, Some, None, Result, Ok, Err, if◌then◌else◌, is_some, ◌&&◌, ◌==◌, nat_le, option_map, codes}
 use Rattle.toml.specs.Data.{Data, Members, no_members, as_str, as_integer, get_member}
 use Rattle.ppp_packet.specs.DiscClass.{is_good_disc, is_within}

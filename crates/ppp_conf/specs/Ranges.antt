@@ -1,5 +1,5 @@
 -- What settings that were read keep: the ranges that LCP's options want, and the rules.
-use Rattle.std.specs.Prelude.{◌≡◌, ℕ, true, false, List, length, is_some}
+use Rattle.std.specs.Prelude.{◌≡◌, true, false, length, is_some}
 use Rattle.ppp_packet.specs.DiscClass.{is_good_disc, is_within}
 use Rattle.ppp_conf.specs.EndConfig.{EndSettings}
 use Rattle.ppp_conf.specs.Config.{Settings}

@@ -1,8 +1,8 @@
 //! Settings as a text.
 
-ghost use Rattle.std.specs.Prelude.{◌≡◌, Ok, IfOk, string_bytes};
+ghost use Rattle.std.specs.Prelude.{◌≡◌, Some, Ok, IfOk, string_bytes};
 ghost use Rattle.toml.specs.View.{table_view};
-ghost use Rattle.ppp_conf.specs.Config.{config_of, config_seen};
+ghost use Rattle.ppp_conf.specs.Config.{config_of, config_seen, toml_of};
 ghost use Rattle.ppp_conf.specs.ConfigText.{top_table};
 
 use crate::config::Config;
@@ -15,7 +15,10 @@ use toml::{Table, Value};
 /// Prints settings as a TOML text of version 2 with every key that is there, which reads as the same settings. Where
 /// it is printed with memory wanting, there is no text.
 pub fn print_config(alloc: Global, config: &Config) -> Result<String, Memory>
-    ensures { IfOk result (λ text. config_of (string_bytes text) ≡ Ok (config_seen config.now)) }
+    ensures printed { IfOk result
+        (λ text. toml_of (string_bytes text) ≡ Some (top_table (config_seen config.now))) }
+    ensures reads_back { IfOk result
+        (λ text. config_of (string_bytes text) ≡ Ok (config_seen config.now)) }
 {
     let table = config_table(alloc, config)?;
     let Ok(text) = toml::table_to_string(alloc, &table) else {
