@@ -1,4 +1,3 @@
-pub mod Fits
 pub mod IpcpLaw
 pub mod IpcpTable
 pub mod Ipv6Law

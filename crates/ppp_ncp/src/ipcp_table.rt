@@ -4,7 +4,7 @@ ghost use Rattle.std.specs.Prelude.{◌≡◌, ℕ, false, refl, List, IsTrue};
 ghost use Rattle.ppp_packet.specs.ConfigOption.{ConfigOption};
 ghost use Rattle.ppp_packet.specs.Proto.{proto_number};
 ghost use Rattle.ppp_packet.specs.declared.proto.Proto.TheVariants.{Ip};
-ghost use Rattle.ppp_ncp.specs.Fits.{FitsAny};
+ghost use Rattle.ppp_options.specs.Fits.{FitsAny};
 ghost use Rattle.ppp_options.specs.RuleLaw.{rules_lawful};
 ghost use Rattle.ppp_options.specs.Rules.{verdict, table_by, Sendable, IsUnknown, Allows};
 ghost use Rattle.ppp_ncp.specs.IpcpLaw.{ipcp_is_table};

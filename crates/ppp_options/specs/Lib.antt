@@ -1,5 +1,6 @@
 pub mod Differs
 pub mod DiffersLaw
+pub mod Fits
 pub mod FreeLaw
 pub mod Number
 pub mod NumberLaw

@@ -3,7 +3,7 @@
 ghost use Rattle.std.specs.Prelude.{◌≡◌, ℕ, false, refl, IsTrue};
 ghost use Rattle.ppp_packet.specs.Proto.{proto_number};
 ghost use Rattle.ppp_packet.specs.declared.proto.Proto.TheVariants.{Osi};
-ghost use Rattle.ppp_osimpls.specs.Fits.{FitsAny};
+ghost use Rattle.ppp_options.specs.Fits.{FitsAny};
 ghost use Rattle.ppp_options.specs.RuleLaw.{rules_lawful};
 ghost use Rattle.ppp_options.specs.Rules.{table_by, Sendable, IsUnknown, Allows};
 ghost use Rattle.ppp_osimpls.specs.Alignment as spec;
