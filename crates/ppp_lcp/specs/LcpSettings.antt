@@ -1,5 +1,5 @@
 -- What an end is set to ask for of LCP, as plain values.
-use Rattle.std.specs.Prelude.{◌≡◌, ℕ, ◌≤◌, Bool, List, length, take, Option, IsTrue}
+use Rattle.std.specs.Prelude.{ℕ, ◌≤◌, Bool, List, length, take, Option, IsTrue}
 use Rattle.ppp_packet.specs.DiscClass.{is_good_disc}
 use Rattle.ppp_lcp.specs.LcpRanges.{is_mrru, are_classes}
 use Rattle.ppp_lcp.specs.declared.lcp_table.LcpTable.{LcpTable}
