@@ -1,13 +1,12 @@
 -- Two ends with LCP's table agree exactly where the tests of the report say so.
-use Rattle.std.proofs.Common.{inl, inr, ◌≡◌, ◌↔◌, ◌⊎◌, ℕ, Bool, true, false, ◌&&◌, List, [], ◌∷◌, refl, sym, ◌∙◌, ap, arith}
-use Rattle.std.specs.Prelude.{◌≢◌, Some, None, IsTrue, IsNone, if◌then◌else◌}
+use Rattle.std.proofs.Common.{inl, inr, ◌≡◌, ◌↔◌, ◌⊎◌, ℕ, Bool, true, false, ◌&&◌, List, [], ◌∷◌, refl, ap, arith}
+use Rattle.std.specs.Prelude.{◌≢◌, Some, None, IsNone, if◌then◌else◌}
 use Rattle.std.proofs.lemmas.Bool.Decides.{nat_tests}
 use Rattle.std.proofs.lemmas.Slice.Eq.{bytes_eq-Decides}
 use Rattle.ppp_packet.specs.ConfigOption.{ConfigOption}
 use Rattle.ppp_packet.specs.Options.{option_with}
 use Rattle.ppp_duet.specs.Duet.{Duet}
 use Rattle.ppp_auto.specs.Reply.{same_option, same_list}
-use Rattle.ppp_duet.specs.Agreement.{Agree}
 use Rattle.ppp_world.specs.Settings.{Settings}
 use Rattle.ppp_packet.specs.declared.proto.Proto.{Proto}
 use Rattle.ppp_auto.specs.Auto.{is_opened}

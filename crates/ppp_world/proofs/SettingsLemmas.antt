@@ -1,9 +1,9 @@
 -- What settings ask for is within LCP's ranges.
-use Rattle.std.proofs.Common.{◌≡◌, ℕ, ◌<◌, ◌≤◌, Bool, true, false, length, take, refl, arith}
+use Rattle.std.proofs.Common.{◌≡◌, ℕ, ◌≤◌, Bool, true, false, length, take, arith}
 use Rattle.std.specs.Prelude.{Option, is_some}
 use Rattle.std.proofs.lemmas.Bool.Decides.{nat_tests}
 use Rattle.std.proofs.lemmas.List.{length-take-le}
-use Rattle.ppp_packet.specs.DiscClass.{is_good_disc, is_within}
+use Rattle.ppp_packet.specs.DiscClass.{is_within}
 use Rattle.ppp_conf.specs.Config.{Settings, config_seen}
 use Rattle.ppp_conf.specs.EndConfig.{EndSettings, end_seen}
 use Rattle.ppp_conf.specs.Ranges.{AreInRange, IsInRange}
