@@ -1,4 +1,3 @@
 pub mod HexLineLemmas
-pub mod HexTextLemmas
 pub mod RestTextLemmas
 pub mod ShownLemmas

@@ -4,9 +4,9 @@ ghost use Rattle.std.specs.Prelude.{Some};
 ghost use Rattle.ppp_frame.specs.FrameRef.{frame_ref_seen};
 ghost use Rattle.ppp_show.specs.FrameLine.{frame_line, info_text};
 
-use crate::hex_text::HexText;
 use crate::packet_text::PacketText;
 use ppp_frame::FrameRef;
+use ppp_text::HexText;
 use std::fmt;
 
 /// A frame. It prints as `frame PPPP INFO`, then its packet where it is one of a control protocol, and its LF.

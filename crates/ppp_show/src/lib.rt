@@ -11,7 +11,6 @@ mod code_name;
 mod discard_line;
 mod frame_line;
 mod hex_line;
-mod hex_text;
 mod packet_text;
 mod rest_text;
 mod show_fault;

@@ -4,8 +4,8 @@ ghost use Rattle.std.specs.Prelude.{◌≡◌, Some};
 ghost use Rattle.ppp_packet.specs.OptRef.{option_seen};
 ghost use Rattle.ppp_show.specs.RestText.{data_text, has_options, option_text, options_text, rest_text};
 
-use crate::hex_text::HexText;
 use ppp_packet::{Code, OptRef, read_options};
+use ppp_text::HexText;
 use std::fmt;
 
 /// The octets behind a packet's header. They print as options, where the packet has options, or else as data.

@@ -1,4 +1,5 @@
 pub mod FieldsLemmas
+pub mod HexTextLemmas
 pub mod LinesLemmas
 pub mod NumbersLemmas
 pub mod PartsLemmas

@@ -1,6 +1,5 @@
 pub mod AgreementLemmas
 pub mod FrameLemmas
-pub mod HexLemmas
 pub mod LedgerLemmas
 pub mod PartyLemmas
 pub mod QueueLemmas

@@ -1,8 +1,7 @@
 //! The blocks of a report.
 
-ghost use Rattle.std.specs.Prelude.{◌≡◌, ◌≢◌, ◌<◌, ◌++◌, ◌∷◌, [], false, OnOk, Some, option_map, slice_index};
+ghost use Rattle.std.specs.Prelude.{◌≡◌, ◌≢◌, ◌++◌, false, OnOk, Some, option_map};
 ghost use Rattle.std.specs.String.{string_bytes};
-ghost use Rattle.hex.specs.Hex.{encode_lower, lower_digits};
 ghost use Rattle.ppp_world.specs.Agreement.{agree_of};
 ghost use Rattle.ppp_world.specs.Report.{agree_text, lcp_line, list_text, lists_text, show_block, states_text, terms_text};
 ghost use Rattle.ppp_world.specs.TwoEnds.{duet_seen, settings_of};
@@ -13,6 +12,7 @@ use crate::step::ONLY_LINK;
 use crate::two_ends::TwoEnds;
 use ppp_auto::Memory;
 use ppp_packet::{OptList, Proto};
+use ppp_text::HexText;
 use std::fmt;
 
 /// Writes the block of a `show` at a step.
@@ -126,54 +126,10 @@ impl fmt::Display for Granted<'_> {
         if list.is_empty() {
             return f.write_str("empty");
         }
-        let octets = Hex {
+        let octets = HexText {
             octets: list.octets(),
         };
         write!(f, "{octets}")
-    }
-}
-
-/// Octets in hexadecimal digits.
-#[derive(Clone, Copy)]
-struct Hex<'a> {
-    octets: &'a [u8],
-}
-
-impl fmt::Display for Hex<'_> {
-    ghost output = { λ h. Some (encode_lower h.octets.now) };
-
-    fn fmt<W: fmt::Write>(&self, f: &mut fmt::Formatter<W>) -> fmt::Result {
-        for octet in self.octets {
-            let high = digit(octet / 16);
-            let low = digit(octet % 16);
-            write!(f, "{high}{low}")?;
-        }
-        Ok(())
-    }
-}
-
-/// The hexadecimal digit of a number below 16.
-fn digit(number: u8) -> &'static str
-    requires { number < 16 }
-    ensures { result.now ≡ slice_index lower_digits number ∷ [] }
-{
-    match number {
-        0 => "0",
-        1 => "1",
-        2 => "2",
-        3 => "3",
-        4 => "4",
-        5 => "5",
-        6 => "6",
-        7 => "7",
-        8 => "8",
-        9 => "9",
-        10 => "a",
-        11 => "b",
-        12 => "c",
-        13 => "d",
-        14 => "e",
-        _ => "f",
     }
 }
 

@@ -1,7 +1,7 @@
 use Rattle.std.proofs.Common.{take}
 use Rattle.std.specs.Fmt.{HasWritten, IsPlainFormatter}
 use Rattle.hex.specs.Hex.{encode_lower}
-use Rattle.ppp_show.proofs.hex_text.HexTextDisplay.fmt.Given as goal
+use Rattle.ppp_text.proofs.hex_text.HexTextDisplay.fmt.Given as goal
 
 abbrev pub invariant-loop-octet : goal.invariant-loop-octet
 invariant-loop-octet g l =

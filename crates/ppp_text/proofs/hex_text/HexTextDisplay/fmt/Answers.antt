@@ -1,7 +1,7 @@
 use Rattle.std.proofs.Common.{refl, arith, rules}
 use Rattle.std.proofs.Output.{has_written_append, has_written_of_eq}
-use Rattle.ppp_show.proofs.HexTextLemmas.{encode-none, encode-more}
-use Rattle.ppp_show.proofs.hex_text.HexTextDisplay.fmt.Goals as goal
+use Rattle.ppp_text.proofs.HexTextLemmas.{encode-none, encode-more}
+use Rattle.ppp_text.proofs.hex_text.HexTextDisplay.fmt.Goals as goal
 
 pub loop-octet-init : goal.loop-octet-init
 loop-octet-init g c = λ plain. rw encode-none (search rules)

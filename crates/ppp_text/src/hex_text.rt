@@ -5,10 +5,11 @@ ghost use Rattle.hex.specs.Hex.{encode_lower, lower_digits};
 
 use std::fmt;
 
-/// Octets. Each prints as two hexadecimal digits in lower case.
-#[derive(Clone, Copy)]
-pub(crate) struct HexText<'a> {
-    pub(crate) octets: &'a [u8],
+/// Octets as a text. Each prints as two hexadecimal digits in lower case.
+#[derive(Clone, Copy, Debug, PartialEq, Eq)]
+pub struct HexText<'a> {
+    /// The octets.
+    pub octets: &'a [u8],
 }
 
 impl fmt::Display for HexText<'_> {
