@@ -31,7 +31,7 @@ bacp_is_table favored h = record {
   few = omega arith;
 }
 
-takes_others : (favored : ℕ) → TakesOthers (bacp_rules favored) 1 4
+pub takes_others : (favored : ℕ) → TakesOthers (bacp_rules favored) 1 4
 takes_others favored = record { takes = λ own body h. h }
 
 pub bacp_fits : (favored : ℕ) (own theirs : List ConfigOption) → Sendable (bacp_rules favored) own →

@@ -5,7 +5,7 @@ use Rattle.ppp_auto.specs.declared.auto_state.AutoState.TheVariants.{Opened}
 use Rattle.ppp_auto.specs.Packet.{Request}
 use Rattle.ppp_duet.specs.Agreement.{Agree}
 use Rattle.ppp_duet.specs.Duet.{End, Duet, Marked, Setup, Side, Event, happens, run, start}
-use Rattle.ppp_duet.specs.NarrowRun.{NarrowIfTaken, IsNarrowWhereTaken}
+use Rattle.ppp_duet.specs.NarrowRun.{IsNarrowRun, NarrowIfTaken, IsNarrowWhereTaken}
 use Rattle.ppp_duet.specs.Reached.{Reached, IsKeptIn, Lists, Carried, IdsFollow, OldestFirst}
 use Rattle.ppp_duet.specs.Reopening.{IsOpenedAt, IsOpenedBeyond, Waits}
 use Rattle.ppp_duet.specs.Span.{requests, answers, least}
@@ -13,7 +13,7 @@ use Rattle.ppp_duet.specs.Terms.{Terms, AreLawful, KeptBy}
 use Rattle.ppp_duet.proofs.AgreementLemmas.{opened_agree}
 use Rattle.ppp_duet.proofs.Events.{run_holds, start_holds}
 use Rattle.ppp_duet.proofs.Invariant.{Asked, Half, Holds}
-use Rattle.ppp_duet.proofs.NarrowRunLemmas.{run_append, narrow_append}
+use Rattle.ppp_duet.proofs.NarrowRunLemmas.{where_taken, run_append, narrow_append}
 use Rattle.ppp_duet.proofs.Queues.{all_weaker, options_in, rising_within}
 use Rattle.ppp_duet.proofs.ReopeningLemmas.{waits_left, waits_on, waits_entered}
 use Rattle.ppp_duet.proofs.SpanLemmas.{oldest_first}
@@ -33,6 +33,15 @@ reached_on sa sb d e narrow r = record {
 -- a whole run
 pub reached_run : (sa sb : Setup) (es : List Event) → IsNarrowWhereTaken sa sb es (start sa sb) → Reached sa sb (run sa sb es (start sa sb))
 reached_run sa sb es narrow = record { events = es; narrow = narrow; ends = refl }
+
+-- what is so of each reached state with both ends Opened is so of narrow runs
+pub opened_run : (sa sb : Setup) (fact : Duet → Type 0) →
+    ((d : Duet) → Reached sa sb d → d.a.auto.state ≡ Opened → d.b.auto.state ≡ Opened → fact d) →
+    (es : List Event) → IsNarrowRun sa sb es (start sa sb) →
+    (run sa sb es (start sa sb)).a.auto.state ≡ Opened → (run sa sb es (start sa sb)).b.auto.state ≡ Opened →
+    fact (run sa sb es (start sa sb))
+opened_run sa sb fact at es narrow =
+    at (run sa sb es (start sa sb)) (reached_run sa sb es (where_taken sa sb es (start sa sb) narrow))
 
 -- several events more
 pub reached_more : (sa sb : Setup) (d : Duet) (es : List Event) → IsNarrowWhereTaken sa sb es d → Reached sa sb d → Reached sa sb (run sa sb es d)

@@ -1,10 +1,9 @@
 -- That two Opened ends agree.
-use Rattle.std.specs.Prelude.{◌≡◌, ℕ, List}
+use Rattle.std.specs.Prelude.{◌≡◌, List}
 use Rattle.ppp_packet.specs.ConfigOption.{ConfigOption}
-use Rattle.ppp_auto.specs.declared.auto_state.AutoState.TheVariants.{Opened}
 use Rattle.ppp_auto.specs.OptionTable.{Table}
-use Rattle.ppp_duet.specs.Duet.{Duet, Event, Setup, run, start}
-use Rattle.ppp_duet.specs.NarrowRun.{IsNarrowRun}
+use Rattle.ppp_duet.specs.Duet.{Duet}
+use Rattle.ppp_duet.specs.EveryRun.{WhereOpened}
 
 -- Two Opened ends agree: each one's list is what the other acknowledged last, may be sent by its own table and was
 -- allowed by the other's against the other's list of that moment, and the two lists fit.
@@ -17,15 +16,8 @@ pub record Agree (sends_a sends_b : List ConfigOption → Type 0) (allows_a allo
   pub a_allows : allows_a d.a.against d.b.auto.own
   pub fits : compat d.a.auto.own d.b.auto.own
 
--- Whatever happens, and whatever the first Identifiers: where each state so far is narrow, two Opened ends agree, for
--- two values `a` and `b` of what answers the tables.
+-- Wherever both ends are Opened in a narrow run, they agree.
 abbrev pub Agreement : {V : Type 0} → (table : V → Table) (sendable : V → List ConfigOption → Type 0)
     (allows : V → List ConfigOption → List ConfigOption → Type 0) (compat : List ConfigOption → List ConfigOption → Type 0) (a b : V) → Type 0
 Agreement table sendable allows compat a b =
-    (first_a first_b : ℕ) (es : List Event) →
-    let sa : Setup = record { table = table a; first = first_a } in
-    let sb : Setup = record { table = table b; first = first_b } in
-    IsNarrowRun sa sb es (start sa sb) →
-    (run sa sb es (start sa sb)).a.auto.state ≡ Opened →
-    (run sa sb es (start sa sb)).b.auto.state ≡ Opened →
-    Agree (sendable a) (sendable b) (allows a) (allows b) compat (run sa sb es (start sa sb))
+    WhereOpened table (Agree (sendable a) (sendable b) (allows a) (allows b) compat) a b

@@ -1,5 +1,6 @@
 pub mod Agreement
 pub mod Duet
+pub mod EveryRun
 pub mod NarrowRun
 pub mod Reached
 pub mod Reopening

@@ -318,7 +318,7 @@ lcp_is_table t ranged = record {
 }
 
 -- two lists of which one allows the other don't have the same Magic-Number
-takes_others : (t : LcpSettings) → TakesOthers (lcp_rules t) 5 4
+pub takes_others : (t : LcpSettings) → TakesOthers (lcp_rules t) 5 4
 takes_others t = record { takes = λ own body h. h }
 
 pub lcp_fits : (t : LcpSettings) (own theirs : List ConfigOption) → Sendable (lcp_rules t) own →

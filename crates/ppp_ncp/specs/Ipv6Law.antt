@@ -45,7 +45,7 @@ is_rule own ask = record {
 pub ipv6_is_table : (own : ℕ) (ask : Bool) → IsTable (ipv6_rules own ask)
 ipv6_is_table own ask = record { ascending = refl; each = (is_rule own ask, tt); fits = omega arith; few = omega arith }
 
-takes_others : (own : ℕ) (ask : Bool) → TakesOthers (ipv6_rules own ask) 1 8
+pub takes_others : (own : ℕ) (ask : Bool) → TakesOthers (ipv6_rules own ask) 1 8
 takes_others own ask = record { takes = λ mine body h. h }
 
 pub ipv6_fits : (own : ℕ) (ask : Bool) (mine theirs : List ConfigOption) → Sendable (ipv6_rules own ask) mine →

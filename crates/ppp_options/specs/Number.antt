@@ -1,8 +1,10 @@
 -- Numbers in the bodies of options, the highest octet first, and numbers that are drawn.
 use Rattle.std.specs.Prelude.{ℕ, ◌+◌, ◌*◌, ◌/◌, ◌%◌, ◌^◌, Bool, not, ◌&&◌, ◌==◌, nat_le, if◌then◌else◌, List, [], ◌∷◌, length, Option, Some, None}
+use Rattle.std.specs.Option.{option_map}
 use Rattle.ppp_options.specs.declared.number.TheConstants.{OCTETS_U32}
 use Rattle.ppp_auto.specs.Taken.{four_octets}
 use Rattle.ppp_packet.specs.ConfigOption.{ConfigOption}
+use Rattle.ppp_packet.specs.Options.{find_kind}
 
 -- the number in octets
 abbrev pub number_after : ℕ → List ℕ → ℕ
@@ -34,6 +36,10 @@ number_or_zero (Some body) = number body
 -- the number of a list's option of that Type and size, or 0
 abbrev pub number_of : ℕ → ℕ → List ConfigOption → ℕ
 number_of kind size list = number_or_zero (body_of kind size list)
+
+-- the number of a list's first option of that Type, if it has one
+abbrev pub number_in : ℕ → List ConfigOption → Option ℕ
+number_in kind list = option_map number (find_kind kind list)
 
 -- a number that is neither 0 nor the one to avoid
 abbrev pub is_free : ℕ → ℕ → Bool

@@ -1,4 +1,5 @@
 pub mod Agreement
+pub mod Difference
 pub mod Frame
 pub mod Ledger
 pub mod Outstanding

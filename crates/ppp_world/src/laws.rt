@@ -1,14 +1,39 @@
 //! What holds of two ends in every run.
 
+ghost use Rattle.ppp_bacp.specs.declared.bacp_table.TheConstants.{FAVORED_PEER};
 ghost use Rattle.ppp_duet.specs.Agreement.{Agreement};
 ghost use Rattle.ppp_duet.specs.Reopening.{Reopening};
+ghost use Rattle.ppp_lcp.specs.LcpKind.{kind_number};
+ghost use Rattle.ppp_lcp.specs.declared.lcp_kind.LcpKind.TheVariants.{Magic};
 ghost use Rattle.ppp_lcp.specs.LcpSettings.{settings_seen};
 ghost use Rattle.ppp_lcp.specs.LcpTable.{FitsMagic, lcp_rules};
+ghost use Rattle.ppp_ncp.specs.declared.ipv6_table.TheConstants.{IDENTIFIER};
 ghost use Rattle.ppp_options.specs.Rules.{Allows, Sendable};
+ghost use Rattle.ppp_world.specs.Difference.{Difference, BothHaveNumbers, OneFavoured};
 ghost use Rattle.ppp_world.specs.Party.{lcp_of};
 
+use ppp_auto::OptionTable;
+use ppp_bacp::BacpTable;
 pub use ppp_duet::laws::{agreement, reopening};
 use ppp_lcp::LcpTable;
+use ppp_ncp::Ipv6Table;
+
+/// Whenever both ends are Opened, for any two values of the tables, any first Identifiers and every list of events whose
+/// states are all narrow: the Magic-Numbers of their own lists differ (RFC 1661 section 6.4), and so do the
+/// Interface-Identifiers (RFC 5072 section 4.1) and the Favored-Peer numbers (RFC 2125), where both lists have one. Both
+/// lists of BACP have a number, and exactly one end holds itself favoured.
+pub fn difference()
+    ensures magic { (a b : LcpTable) →
+        Difference ⟦<LcpTable as OptionTable>⟧.table (kind_number Magic) a b }
+    ensures identifier { (a b : Ipv6Table) →
+        Difference ⟦<Ipv6Table as OptionTable>⟧.table IDENTIFIER a b }
+    ensures favored { (a b : BacpTable) →
+        Difference ⟦<BacpTable as OptionTable>⟧.table FAVORED_PEER a b }
+    ensures both_favored { (a b : BacpTable) →
+        BothHaveNumbers ⟦<BacpTable as OptionTable>⟧.table FAVORED_PEER a b }
+    ensures one_favoured { (a b : BacpTable) →
+        OneFavoured ⟦<BacpTable as OptionTable>⟧.table a b }
+{}
 
 /// Both laws for LCP's table, from its own laws, with nothing assumed.
 pub(crate) fn hold_of_lcp(a: &LcpTable, b: &LcpTable)
