@@ -12,6 +12,7 @@ pub mod ReachedLemmas
 pub mod ReopeningLemmas
 pub mod ReplyLemmas
 pub mod RowMoves
+pub mod SaidLemmas
 pub mod SpanLemmas
 pub mod TermsLemmas
 pub mod Turns

@@ -4,5 +4,6 @@ pub mod EveryRun
 pub mod NarrowRun
 pub mod Reached
 pub mod Reopening
+pub mod Said
 pub mod Span
 pub mod Terms

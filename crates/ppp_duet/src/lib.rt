@@ -13,6 +13,9 @@
 //! caller that keeps two ends of its own shows of each state that a list of events leads to it (`specs/Reached`), and
 //! has the laws, the Identifiers and the order in its queues from the lemmas on such states.
 //!
+//! What two ends say to each other, the lists of their requests and of each kind of answer, is carried through every run
+//! without a bound on spans (`specs/Said`).
+//!
 //! Left out: time, frames, and what a line does to octets.
 #![tactic(auto)]
 
