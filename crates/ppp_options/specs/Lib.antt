@@ -1,6 +1,7 @@
 pub mod Differs
 pub mod DiffersLaw
 pub mod Fits
+pub mod Free
 pub mod FreeLaw
 pub mod Number
 pub mod NumberLaw
@@ -9,3 +10,5 @@ pub mod NumberRuleLaw
 pub mod Rule
 pub mod RuleLaw
 pub mod Rules
+pub mod Steady
+pub mod SteadyLaw

@@ -237,7 +237,7 @@ none-required [] list h = refl
 none-required (r ∷ rs) list h = let rest = none-required rs list in grind (arith, nat_tests)
 
 -- The three tests of a list that may be asked for.
-parts-of : (rs : List Rule) (list : List ConfigOption) → is_sendable rs list ≡ true →
+pub parts-of : (rs : List Rule) (list : List ConfigOption) → is_sendable rs list ≡ true →
     (rises 0 list ≡ true) × (list_all (is_sent rs) list ≡ true) × (has_required rs list ≡ true)
 parts-of rs list h =
     let one = and-both _ _ h in let two = and-both _ _ one.0 in (two.0, two.1, one.1)
@@ -253,7 +253,7 @@ first_sent rs t word =
     (initial-all is_sent_by rs rs word (λ r body is e. is.first_sent word body e) t.each (finds-self 0 rs t.ascending))
     (initial-required rs word t.each)
 
-after_nak_sent : (rs : List Rule) → IsTable rs → (last nak : List ConfigOption) (word : ℕ) → Sendable rs last →
+pub after_nak_sent : (rs : List Rule) → IsTable rs → (last nak : List ConfigOption) (word : ℕ) → Sendable rs last →
     Sendable rs (adapt_nak rs last nak word)
 after_nak_sent rs t last nak word h =
     let p = parts-of rs last h in
@@ -266,7 +266,7 @@ reject-by rs false last reject any h =
     let p = parts-of rs last h in
     of-parts rs (without last reject) (without-rises 0 last reject p.0) (without-all (is_sent rs) last reject p.1) (none-required rs (without last reject) any)
 
-after_reject_sent : (rs : List Rule) (last reject : List ConfigOption) (word : ℕ) → Sendable rs last →
+pub after_reject_sent : (rs : List Rule) (last reject : List ConfigOption) (word : ℕ) → Sendable rs last →
     Sendable rs (adapt_reject rs last reject word)
 after_reject_sent rs last reject word h = reject-by rs (requires_any rs) last reject refl h
 
@@ -504,7 +504,7 @@ none_above-more : (low : ℕ) (earlier : List ConfigOption) (o : ConfigOption) �
 none_above-more low [] o h below = grind (arith, nat_tests)
 none_above-more low (x ∷ xs) o h below = let rest = none_above-more low xs o h in grind (arith, nat_tests)
 
-rises-once : (low : ℕ) (earlier list : List ConfigOption) → none_above low earlier ≡ true → rises low list ≡ true →
+pub rises-once : (low : ℕ) (earlier list : List ConfigOption) → none_above low earlier ≡ true → rises low list ≡ true →
     NoneTwice earlier list
 rises-once low earlier [] below up = tt
 rises-once low earlier (o ∷ os) below up =
