@@ -1,3 +1,5 @@
+pub mod Decided
+pub mod DecidedLaw
 pub mod LcpGrant
 pub mod LcpKind
 pub mod LcpLaw
