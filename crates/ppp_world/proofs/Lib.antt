@@ -1,4 +1,5 @@
 pub mod AgreementLemmas
+pub mod DecidedLemmas
 pub mod DifferenceLemmas
 pub mod FrameLemmas
 pub mod LedgerLemmas

@@ -1,4 +1,5 @@
 pub mod Agreement
+pub mod Decided
 pub mod Difference
 pub mod Frame
 pub mod Ledger

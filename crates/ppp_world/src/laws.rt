@@ -1,14 +1,17 @@
 //! What holds of two ends in every run.
 
+ghost use Rattle.std.specs.Prelude.{◌≢◌};
 ghost use Rattle.ppp_bacp.specs.declared.bacp_table.TheConstants.{FAVORED_PEER};
 ghost use Rattle.ppp_duet.specs.Agreement.{Agreement};
 ghost use Rattle.ppp_duet.specs.Reopening.{Reopening};
 ghost use Rattle.ppp_lcp.specs.LcpKind.{kind_number};
-ghost use Rattle.ppp_lcp.specs.declared.lcp_kind.LcpKind.TheVariants.{Magic};
+ghost use Rattle.ppp_lcp.specs.declared.lcp_kind.LcpKind.{LcpKind};
+ghost use Rattle.ppp_lcp.specs.declared.lcp_kind.LcpKind.TheVariants.{Magic, Mrru, Short, Classes};
 ghost use Rattle.ppp_lcp.specs.LcpSettings.{settings_seen};
 ghost use Rattle.ppp_lcp.specs.LcpTable.{FitsMagic, lcp_rules};
 ghost use Rattle.ppp_ncp.specs.declared.ipv6_table.TheConstants.{IDENTIFIER};
 ghost use Rattle.ppp_options.specs.Rules.{Allows, Sendable};
+ghost use Rattle.ppp_world.specs.Decided.{SettingsDecide};
 ghost use Rattle.ppp_world.specs.Difference.{Difference, BothHaveNumbers, OneFavoured};
 ghost use Rattle.ppp_world.specs.Party.{lcp_of};
 
@@ -33,6 +36,17 @@ pub fn difference()
         BothHaveNumbers ⟦<BacpTable as OptionTable>⟧.table FAVORED_PEER a b }
     ensures one_favoured { (a b : BacpTable) →
         OneFavoured ⟦<BacpTable as OptionTable>⟧.table a b }
+{}
+
+/// Whatever happens, and however wide the spans are: the settings of the two ends decide each option of LCP but the
+/// Magic-Number. Where the peer knows the option, each list that an end asks for has it as the first one has it; and each
+/// list that the peer acknowledges has it where the end's settings ask for it and the peer knows it, and else not. So it
+/// is of the multilink's MRRU and short headers (RFC 1990 section 5.1) and of its classes (after RFC 2686).
+pub fn settings_decide(a: &LcpTable, b: &LcpTable)
+    ensures mrru { SettingsDecide Mrru a.now b.now }
+    ensures short { SettingsDecide Short a.now b.now }
+    ensures classes { SettingsDecide Classes a.now b.now }
+    ensures each { (kind : LcpKind) → kind ≢ Magic → SettingsDecide kind a.now b.now }
 {}
 
 /// Both laws for LCP's table, from its own laws, with nothing assumed.

@@ -4,6 +4,8 @@
 //! refused, which prints itself. [`World`] is the same step by step: `step` for each event, `agree` and `report` between
 //! them. A step is refused with [`Outstanding`] where an Identifier no longer tells the requests under way apart, and
 //! after that every call gives the same refusal. There is no clock, and nothing is read or written outside.
+//!
+//! [`laws`] has what holds of two ends with the shipped tables, IPV6CP's and BACP's among them, in every run.
 #![tactic(auto)]
 
 mod agreement;
