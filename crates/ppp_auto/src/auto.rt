@@ -21,10 +21,10 @@ use crate::taken::Taken;
 use ppp_packet::{OptList, Options};
 
 /// The least cap on a Code-Reject or an Echo-Reply, in octets.
-pub(crate) const LEAST_CAP: u16 = 128;
+pub const LEAST_CAP: u16 = 128;
 
 /// The greatest cap on a Code-Reject or an Echo-Reply, in octets.
-pub(crate) const MOST_CAP: u16 = 1500;
+pub const MOST_CAP: u16 = 1500;
 
 /// One automaton without its table.
 #[derive(Drop)]

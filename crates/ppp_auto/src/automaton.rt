@@ -60,6 +60,14 @@ impl<T: OptionTable> Automaton<T> {
         Automaton { table, auto }
     }
 
+    /// Is as a new one over the same table, with Identifiers that begin at `first_id`.
+    pub fn reset(&mut self, first_id: u8)
+        ensures table { self.new.0 ≡ self.old.0 }
+        ensures auto { self.new.1 ≡ begun (T.table self.old.0) first_id }
+    {
+        self.auto = Auto::begun(&self.table, first_id);
+    }
+
     /// Does the row of an event without a packet, and puts what it sends and tells into `out`, which is emptied first.
     /// A word is what a table draws from where a new list is asked for.
     pub fn event(&mut self, ev: AutoEvent, word: u64, out: &mut Outbox)
@@ -165,6 +173,13 @@ impl<T: OptionTable> Automaton<T> {
         ensures auto { self.new.1 ≡ record self.old.1 { cap = cap } }
     {
         self.auto.cap = cap;
+    }
+
+    /// The table.
+    pub fn table(&self) -> &T
+        ensures { result.now ≡ self.now.0 }
+    {
+        &self.table
     }
 
     /// The state.

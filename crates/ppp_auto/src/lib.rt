@@ -28,12 +28,13 @@ mod taken;
 mod verdict;
 
 pub use action::Action;
+pub use auto::{LEAST_CAP, MOST_CAP};
 pub use auto_event::AutoEvent;
 pub use auto_state::AutoState;
 pub use automaton::Automaton;
 pub use input::Input;
 pub use layer_signal::LayerSignal;
 pub use option_table::OptionTable;
-pub use outbox::{EntryRef, Outbox};
+pub use outbox::{EntryRef, MOST_OCTETS, Outbox};
 pub use ppp_memory::Memory;
 pub use verdict::Verdict;

@@ -15,7 +15,7 @@ use std::alloc::Global;
 use std::marker::Model;
 
 /// The most octets that a packet in an outbox has.
-pub(crate) const MOST_OCTETS: usize = 1500;
+pub const MOST_OCTETS: usize = 1500;
 
 /// The most octets that a packet in an outbox has behind its header.
 pub(crate) const MOST_REST: usize = MOST_OCTETS - PACKET_HEADER;

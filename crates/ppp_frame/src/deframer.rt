@@ -108,7 +108,8 @@ impl Deframer {
     /// The frame that the last call of `feed` answered.
     pub fn frame(&self) -> FrameRef<'_>
         requires { IsSome self.now.frame }
-        ensures { self.now.frame ≡ Some (frame_ref_seen result) }
+        ensures frame { self.now.frame ≡ Some (frame_ref_seen result) }
+        ensures size { length result.info.now ≤ self.now.reader.limit }
     {
         match self.lent {
             Some(lent) => FrameRef {

@@ -413,7 +413,7 @@ fine-once rs own earlier (o ∷ os) h =
     let one = and-both _ _ h in let two = and-both _ _ one.0 in
     (not-true _ two.1, fine-once rs own (earlier ++ o ∷ []) os one.1)
 
-allows_is : (extended : Bool) (rs : List Rule) (magic : List ConfigOption → ℕ) (own theirs : List ConfigOption)
+pub allows_is : (extended : Bool) (rs : List Rule) (magic : List ConfigOption → ℕ) (own theirs : List ConfigOption)
     (word : ℕ) → Allows rs own theirs ↔ Passes (table_by extended rs magic) own theirs word
 allows_is extended rs magic own theirs word = (
   λ h. let both = and-both (all_fine rs own [] theirs) (has_required rs theirs) h in

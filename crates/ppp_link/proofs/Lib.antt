@@ -1,0 +1,5 @@
+mod AcceptedLemmas
+mod ListLemmas
+mod LinkLemmas
+mod LinkOutLemmas
+mod StepsLemmas
