@@ -1,4 +1,5 @@
 mod AcceptedLemmas
+mod AnswerLemmas
 mod ListLemmas
 mod LinkLemmas
 mod LinkOutLemmas

@@ -1,3 +1,4 @@
+pub mod Answer
 pub mod Automata
 pub mod Link
 pub mod LinkOut

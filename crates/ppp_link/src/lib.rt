@@ -14,6 +14,7 @@
 
 mod automata;
 mod given;
+pub mod laws;
 mod link;
 mod link_out;
 mod steps;
