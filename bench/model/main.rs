@@ -1,5 +1,6 @@
 //! `pppd replay` in plain Rust: one link, LCP, default settings. `bench/ratio.py` measures the program against it,
-//! built by `rustc -O`. Left out are packets that these two ends never send: of codes 7 to 11 and unknown ones.
+//! built by `rustc -O`. Left out are packets that these two ends never send: of codes 7 to 11 and unknown ones. So are
+//! settings but `version = 1`: any others are refused as no TOML.
 
 use Action::{Again, Answer, InitRestart, Refuse, Request, Terminate, TerminateAck, ZeroRestart};
 use State::{AckRcvd, AckSent, Closed, Closing, Initial, Opened, ReqSent, Starting, Stopped, Stopping};
@@ -15,6 +16,11 @@ const WIDEST: u64 = 255;
 const MAX_FAILURE: u8 = 5;
 const MRU: u8 = 1;
 const MAGIC: u8 = 5;
+const FLAG: u8 = 0x7e;
+const ESCAPE: u8 = 0x7d;
+const MAP: u32 = 0xffff_ffff;
+/// Address, control and LCP's number.
+const HEADER: [u8; 4] = [0xff, 0x03, 0xc0, 0x21];
 
 #[derive(Clone, Copy, PartialEq)]
 enum State { Initial, Starting, Closed, Stopped, Closing, Stopping, ReqSent, AckRcvd, AckSent, Opened }
@@ -72,8 +78,12 @@ fn options(mut list: &[u8]) -> impl Iterator<Item = &[u8]> {
     std::iter::from_fn(move || {
         let (option, rest) = list.split_at_checked(usize::from(*list.get(1)?))?;
         list = rest;
-        Some(option)
+        (option.len() >= 2).then_some(option)
     })
+}
+
+fn is_list(octets: &[u8]) -> bool {
+    options(octets).map(<[u8]>::len).sum::<usize>() == octets.len()
 }
 
 fn find(list: &[u8], kind: u8) -> Option<&[u8]> {
@@ -158,16 +168,93 @@ fn is_sublist(part: &[u8], list: &[u8]) -> bool {
     options(part).all(|option| left.any(|own| own == option))
 }
 
-/// A packet under way. A request's mark is its ordinal, an answer's that of its request, any other's is 0.
-struct Frame { mark: u64, octets: Vec<u8> }
+/// What an octet does to the check sequence (RFC 1662 appendix C.2).
+const TABLE: [u16; 256] = {
+    let mut table = [0; 256];
+    let mut octet = 0;
+    while octet < 256 {
+        let (mut value, mut bit) = (octet as u16, 0);
+        while bit < 8 {
+            value = if value & 1 == 1 { value >> 1 ^ 0x8408 } else { value >> 1 };
+            bit += 1;
+        }
+        table[octet] = value;
+        octet += 1;
+    }
+    table
+};
+
+fn next_check(check: u16, octet: u8) -> u16 {
+    check >> 8 ^ TABLE[usize::from(check as u8 ^ octet)]
+}
+
+/// Puts an octet at the end of a frame, behind an escape if it needs one.
+fn put_octet(frame: &mut Vec<u8>, octet: u8) {
+    if octet == FLAG || octet == ESCAPE || (octet < 0x20 && MAP >> octet & 1 == 1) {
+        frame.push(ESCAPE);
+        frame.push(octet ^ 0x20);
+    } else {
+        frame.push(octet);
+    }
+}
+
+/// The frame of a header and a packet (RFC 1662 section 3.1).
+fn write_frame(plain: &[u8]) -> Vec<u8> {
+    let mut frame = Vec::with_capacity(2 * plain.len() + 6);
+    let mut check = 0xffff;
+    frame.push(FLAG);
+    for octet in plain {
+        check = next_check(check, *octet);
+        put_octet(&mut frame, *octet);
+    }
+    for octet in (!check).to_le_bytes() {
+        put_octet(&mut frame, octet);
+    }
+    frame.push(FLAG);
+    frame
+}
+
+/// The octets between two flags, escapes undone, if they end with their check sequence.
+fn read_frame(frame: &[u8]) -> Option<Vec<u8>> {
+    let mut plain = Vec::with_capacity(frame.len());
+    let mut check = 0xffff;
+    let mut is_escaped = false;
+    for octet in frame.strip_prefix(&[FLAG])?.strip_suffix(&[FLAG])? {
+        if *octet == ESCAPE && !is_escaped {
+            is_escaped = true;
+            continue;
+        }
+        let octet = if is_escaped { *octet ^ 0x20 } else { *octet };
+        is_escaped = false;
+        check = next_check(check, octet);
+        plain.push(octet);
+    }
+    (!is_escaped && check == 0xf0b8).then_some(plain)
+}
+
+/// The code, the Identifier and the data of the packet behind a header and before a check sequence.
+fn read_packet(plain: &[u8]) -> Option<(u8, u8, &[u8])> {
+    let [packet @ .., _, _] = plain.strip_prefix(&HEADER)? else { return None };
+    let [code, id, high, low, ..] = *packet else { return None };
+    let data = packet.get(4..usize::from(u16::from_be_bytes([high, low])))?;
+    (code > 4 || is_list(data)).then_some((code, id, data))
+}
+
+/// What kind of packet a frame carries: an answer is one to a request.
+#[derive(PartialEq)]
+enum Kind { Request, Answer, Other }
+
+/// A frame under way. A request's mark is its ordinal, an answer's that of its request, any other's is 0.
+struct Frame { mark: u64, kind: Kind, octets: Vec<u8> }
 
 type Queue = VecDeque<Frame>;
 
-/// Puts a packet at the end of a queue, or loses it where that is full.
+/// Puts the frame of a packet at the end of a queue, or loses it where that is full.
 fn send(queue: &mut Queue, mark: u64, code: u8, id: u8, data: &[u8]) {
     if queue.len() < ROOM {
-        let octets = [&[code, id, 0, 4 + data.len() as u8], data].concat();
-        queue.push_back(Frame { mark, octets });
+        let kind = match code { 1 => Kind::Request, 2..=4 => Kind::Answer, _ => Kind::Other };
+        let plain = [&HEADER[..], &[code, id, 0, 4 + data.len() as u8], data].concat();
+        queue.push_back(Frame { mark, kind, octets: write_frame(&plain) });
     }
 }
 
@@ -199,11 +286,12 @@ impl End {
     }
 
     fn take(&mut self, frame: &Frame, word: u64, queue: &mut Queue) {
-        let (id, theirs) = (frame.octets[1], &frame.octets[4..]);
+        let Some(plain) = read_frame(&frame.octets) else { return };
+        let Some((code, id, theirs)) = read_packet(&plain) else { return };
         let mut packet = Packet { id, mark: frame.mark, theirs, ..Packet::default() };
         let is_idle = matches!(self.state, Closed | Stopped);
         let is_last = is_idle || id == self.next_id.wrapping_sub(1);
-        let input = match frame.octets[0] {
+        let input = match code {
             1 => {
                 let first = (self.state == Stopped).then(|| magic_option(pick(word, 0)));
                 let (input, code, list) = judge_request(first.as_ref().unwrap_or(&self.own), self.naks, theirs, word);
@@ -326,8 +414,8 @@ impl World {
     }
 
     fn check_span(&self, e: usize) -> Result<(), Outstanding> {
-        let requests = self.queues[1 - e].iter().filter(|frame| frame.octets[0] == 1);
-        let answers = self.queues[e].iter().filter(|frame| matches!(frame.octets[0], 2..=4));
+        let requests = self.queues[1 - e].iter().filter(|frame| frame.kind == Kind::Request);
+        let answers = self.queues[e].iter().filter(|frame| frame.kind == Kind::Answer);
         let sent = self.ends[e].sent;
         let oldest = requests.chain(answers).map(|frame| frame.mark).min().unwrap_or(sent);
         if sent - oldest > WIDEST { Err((e, sent, oldest)) } else { Ok(()) }
@@ -445,8 +533,8 @@ fn read_script(mut text: &[u8]) -> Result<Vec<Event>, (u32, &'static str)> {
 /// The status, and what is written.
 fn reply(text: &[u8]) -> (u8, String) {
     let (settings, script) = part_input(text);
-    if !matches!(settings, b"version = 1" | b"version = 1\n") {
-        return (11, "not built\n".to_string());
+    if !matches!(settings, b"version = 1" | b"version = 1\n" | b"version = 1\r\n") {
+        return (5, "config - Toml\n".to_string());
     }
     let events = match read_script(script) {
         Ok(events) => events,
