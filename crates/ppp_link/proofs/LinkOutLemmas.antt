@@ -12,6 +12,7 @@ use Rattle.ppp_frame.specs.Escapes.{must_escape, spelled, stuffed}
 use Rattle.ppp_frame.specs.Fcs.{checked, fcs_octets}
 use Rattle.ppp_frame.specs.Frame.{enc}
 use Rattle.ppp_frame.specs.Header.{address_octets, protocol_octets, header_of, headed, leaves_out, is_short}
+use Rattle.ppp_link.specs.declared.link_out.TheConstants.{MOST_PUSH, MOST_OCTETS}
 use Rattle.ppp_link.specs.declared.link_out.Slot.{Slot}
 use Rattle.ppp_link.specs.declared.link_out.Slot.TheVariants as kept
 use Rattle.ppp_link.specs.LinkOut.{Entry, Push, Payload, slot_seen, IsWithin, AreWithin}
@@ -68,8 +69,8 @@ seen-append octets more (kept.NetUp proto) h = refl
 seen-append octets more (kept.NetDown proto) h = refl
 
 within-more : (octets more : List ℕ) (slot : Slot) → IsWithin octets slot → IsWithin (octets ++ more) slot
-within-more octets more (kept.Push start end) h = (h.0, omega (arith, h.1, length-append octets more))
-within-more octets more (kept.Payload protocol start end) h = (h.0, omega (arith, h.1, length-append octets more))
+within-more octets more (kept.Push start end) h = (h.0, omega (arith, h.1, length-append octets more), h.2)
+within-more octets more (kept.Payload protocol start end) h = (h.0, omega (arith, h.1, length-append octets more), h.2)
 within-more octets more kept.LcpUp h = tt
 within-more octets more kept.LcpDown h = tt
 within-more octets more kept.Finished h = tt
@@ -108,20 +109,21 @@ part-new octets more start end s e =
     let n : end - start ≡ length more = omega (arith, length-append octets more) in
     rw (n, s, drop-append_seam octets more) (take-length more)
 
-new-within : (octets more : List ℕ) (start end : ℕ) → start ≡ length octets → end ≡ length (octets ++ more) → (start ≤ end) × (end ≤ length (octets ++ more))
-new-within octets more start end s e = (omega (arith, length-append octets more), omega arith)
+new-within : (most : ℕ) (octets more : List ℕ) (start end : ℕ) → start ≡ length octets → end ≡ length (octets ++ more) → length more ≤ most →
+    (start ≤ end) × (end ≤ length (octets ++ more)) × (end ≤ start + most)
+new-within most octets more start end s e m = (omega (arith, length-append octets more), omega arith, omega (arith, length-append octets more))
 
 pub put-push : (octets more all : List ℕ) (slots all_slots : List Slot) (start end : ℕ) → all ≡ octets ++ more → all_slots ≡ slots ++ kept.Push start end ∷ [] →
-    AreWithin octets slots → start ≡ length octets → end ≡ length all → Put octets all slots all_slots (Push more)
-put-push octets more all slots all_slots start end a b h s e =
+    AreWithin octets slots → start ≡ length octets → end ≡ length all → length more ≤ MOST_PUSH → Put octets all slots all_slots (Push more)
+put-push octets more all slots all_slots start end a b h s e m =
     let f : end ≡ length (octets ++ more) = e ∙ ap length a in
-    put octets more all slots all_slots (kept.Push start end) (Push more) a b h (new-within octets more start end s f) (ap (λ xs. Push xs) (part-new octets more start end s f))
+    put octets more all slots all_slots (kept.Push start end) (Push more) a b h (new-within MOST_PUSH octets more start end s f m) (ap (λ xs. Push xs) (part-new octets more start end s f))
 
 pub put-payload : (octets more all : List ℕ) (slots all_slots : List Slot) (protocol start end : ℕ) → all ≡ octets ++ more → all_slots ≡ slots ++ kept.Payload protocol start end ∷ [] →
-    AreWithin octets slots → start ≡ length octets → end ≡ length all → Put octets all slots all_slots (Payload protocol more)
-put-payload octets more all slots all_slots protocol start end a b h s e =
+    AreWithin octets slots → start ≡ length octets → end ≡ length all → length more ≤ MOST_OCTETS → Put octets all slots all_slots (Payload protocol more)
+put-payload octets more all slots all_slots protocol start end a b h s e m =
     let f : end ≡ length (octets ++ more) = e ∙ ap length a in
-    put octets more all slots all_slots (kept.Payload protocol start end) (Payload protocol more) a b h (new-within octets more start end s f) (ap (λ xs. Payload protocol xs) (part-new octets more start end s f))
+    put octets more all slots all_slots (kept.Payload protocol start end) (Payload protocol more) a b h (new-within MOST_OCTETS octets more start end s f m) (ap (λ xs. Payload protocol xs) (part-new octets more start end s f))
 
 -- the slot at a place
 pub within-at : (octets : List ℕ) (slots : List Slot) (i : ℕ) (d slot : Slot) → AreWithin octets slots → i < length slots → get_or slots i d ≡ slot → IsWithin octets slot

@@ -1,5 +1,5 @@
 -- What a step of a link sends and tells, and the list that holds it.
-use Rattle.std.specs.Prelude.{ℕ, ◌-◌, ◌*◌, ◌≤◌, List, [], ◌∷◌, length, map, take, drop, vec_len, vec_capacity}
+use Rattle.std.specs.Prelude.{ℕ, ◌+◌, ◌-◌, ◌*◌, ◌≤◌, List, [], ◌∷◌, length, map, take, drop, vec_len, vec_capacity}
 use Rattle.arrayvec.specs.ArrayVec.{array_vec_len}
 use Rattle.ppp_packet.specs.declared.proto.Proto.{Proto}
 use Rattle.ppp_link.specs.declared.link_out.LinkEntry.{LinkEntry}
@@ -7,7 +7,7 @@ use Rattle.ppp_link.specs.declared.link_out.LinkEntry.TheVariants as lent
 use Rattle.ppp_link.specs.declared.link_out.LinkOut.TheInside.{Inside}
 use Rattle.ppp_link.specs.declared.link_out.Slot.{Slot}
 use Rattle.ppp_link.specs.declared.link_out.Slot.TheVariants as kept
-use Rattle.ppp_link.specs.declared.link_out.TheConstants.{MOST_OCTETS, CAPACITY}
+use Rattle.ppp_link.specs.declared.link_out.TheConstants.{MOST_PUSH, MOST_OCTETS, CAPACITY}
 
 pub data Entry : Type 0 where
   -- the octets of a frame to send, flags and all
@@ -45,10 +45,16 @@ slot_seen octets (kept.NetDown proto) = NetDown proto
 abbrev pub out_seen : Inside → List Entry
 out_seen b = map (slot_seen b.octets.items) b.slots.items
 
--- what a slot points to lies within the octets
+-- an entry is no longer than the longest of its kind
+abbrev pub IsShort : Entry → Type 0
+IsShort (Push octets) = length octets ≤ MOST_PUSH
+IsShort (Payload protocol octets) = length octets ≤ MOST_OCTETS
+IsShort entry = Unit {0}
+
+-- what a slot points to lies within the octets, and is no longer
 abbrev pub IsWithin : List ℕ → Slot → Type 0
-IsWithin octets (kept.Push start end) = (start ≤ end) × (end ≤ length octets)
-IsWithin octets (kept.Payload protocol start end) = (start ≤ end) × (end ≤ length octets)
+IsWithin octets (kept.Push start end) = (start ≤ end) × (end ≤ length octets) × (end ≤ start + MOST_PUSH)
+IsWithin octets (kept.Payload protocol start end) = (start ≤ end) × (end ≤ length octets) × (end ≤ start + MOST_OCTETS)
 IsWithin octets slot = Unit {0}
 
 abbrev pub AreWithin : List ℕ → List Slot → Type 0

@@ -20,6 +20,6 @@ mod link_out;
 mod steps;
 mod tables;
 
-pub use link::{Link, MOST_FRAME};
-pub use link_out::{LinkEntry, LinkOut};
+pub use link::{Link, MOST_AFTER_EVENT, MOST_AFTER_FRAME, MOST_AFTER_RUN, MOST_FRAME};
+pub use link_out::{LinkEntry, LinkOut, MOST_OCTETS, MOST_PUSH};
 pub use ppp_memory::Memory;

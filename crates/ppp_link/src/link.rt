@@ -10,7 +10,7 @@ ghost use Rattle.ppp_link.specs.Automata.{auto_at, is_timed_at};
 ghost use Rattle.ppp_link.specs.Link.{cleared, event_did, fed_with, link_begun, link_up, link_with, run_did};
 ghost use Rattle.ppp_link.specs.LinkSettings.{settings_of};
 ghost use Rattle.ppp_link.specs.LinkTables.{tables_seen};
-ghost use Rattle.ppp_link.specs.declared.link.TheConstants.{MOST_FRAME};
+ghost use Rattle.ppp_link.specs.declared.link.TheConstants.{MOST_AFTER_EVENT, MOST_AFTER_FRAME, MOST_AFTER_RUN, MOST_FRAME};
 
 use crate::automata::Automata;
 use crate::given::Given;
@@ -25,6 +25,15 @@ use std::marker::Model;
 
 /// The most octets of a frame that is read, escapes undone, with header and check sequence.
 pub const MOST_FRAME: usize = 8200;
+
+/// The most entries that an event of one protocol makes.
+pub const MOST_AFTER_EVENT: usize = 4;
+
+/// The most that a frame makes: what comes for an automaton, and the protocol that it may reject.
+pub const MOST_AFTER_FRAME: usize = 8;
+
+/// The most that the control protocols make that go Up or Down together.
+pub const MOST_AFTER_RUN: usize = 20;
 
 /// One link of an end. It is seen as the tables of its protocols, which stay, their automata, and its deframer.
 #[derive(Drop)]
@@ -68,6 +77,7 @@ impl Link {
     pub fn up(&mut self, word: u64, out: &mut LinkOut)
         ensures link { self.new ≡ link_up self.old word }
         ensures out { out.new ≡ (event_did self.old Lcp Up word).out }
+        ensures few { length out.new ≤ MOST_AFTER_EVENT }
     {
         if !self.has_line() {
             clear(&mut self.deframer);
@@ -79,6 +89,7 @@ impl Link {
     pub fn down(&mut self, word: u64, out: &mut LinkOut)
         ensures link { self.new ≡ link_with self.old (event_did self.old Lcp Down word) }
         ensures out { out.new ≡ (event_did self.old Lcp Down word).out }
+        ensures few { length out.new ≤ MOST_AFTER_EVENT }
     {
         self.event(Proto::Lcp, AutoEvent::Down, word, out);
     }
@@ -87,6 +98,7 @@ impl Link {
     pub fn admin_open(&mut self, proto: Proto, word: u64, out: &mut LinkOut)
         ensures link { self.new ≡ link_with self.old (event_did self.old proto AdminOpen word) }
         ensures out { out.new ≡ (event_did self.old proto AdminOpen word).out }
+        ensures few { length out.new ≤ MOST_AFTER_EVENT }
     {
         self.event(proto, AutoEvent::AdminOpen, word, out);
     }
@@ -95,6 +107,7 @@ impl Link {
     pub fn admin_close(&mut self, proto: Proto, word: u64, out: &mut LinkOut)
         ensures link { self.new ≡ link_with self.old (event_did self.old proto AdminClose word) }
         ensures out { out.new ≡ (event_did self.old proto AdminClose word).out }
+        ensures few { length out.new ≤ MOST_AFTER_EVENT }
     {
         self.event(proto, AutoEvent::AdminClose, word, out);
     }
@@ -103,6 +116,7 @@ impl Link {
     pub fn timeout(&mut self, proto: Proto, word: u64, out: &mut LinkOut)
         ensures link { self.new ≡ link_with self.old (event_did self.old proto Timeout word) }
         ensures out { out.new ≡ (event_did self.old proto Timeout word).out }
+        ensures few { length out.new ≤ MOST_AFTER_EVENT }
     {
         self.event(proto, AutoEvent::Timeout, word, out);
     }
@@ -112,6 +126,7 @@ impl Link {
     pub fn run_ncps(&mut self, on: bool, bacp: bool, word: u64, out: &mut LinkOut)
         ensures link { self.new ≡ link_with self.old (run_did self.old on bacp word) }
         ensures out { out.new ≡ (run_did self.old on bacp word).out }
+        ensures few { length out.new ≤ MOST_AFTER_RUN }
     {
         out.clear();
         self.automata.run(on, bacp, word, &mut self.outbox, out);
@@ -124,6 +139,7 @@ impl Link {
     pub fn bytes(&mut self, piece: &[u8], word: u64, out: &mut LinkOut) -> usize
         ensures link { self.new ≡ (fed_with self.old piece.now word).link }
         ensures out { out.new ≡ (fed_with self.old piece.now word).out }
+        ensures few { length out.new ≤ MOST_AFTER_FRAME }
         ensures used { result ≡ (fed_with self.old piece.now word).used }
         ensures within { result ≤ length piece.now }
     {
@@ -196,6 +212,7 @@ impl Link {
     fn event(&mut self, proto: Proto, event: AutoEvent, word: u64, out: &mut LinkOut)
         ensures link { self.new ≡ link_with self.old (event_did self.old proto event word) }
         ensures out { out.new ≡ (event_did self.old proto event word).out }
+        ensures few { length out.new ≤ MOST_AFTER_EVENT }
     {
         out.clear();
         self.automata

@@ -5,9 +5,9 @@ ghost use Rattle.std.specs.Option.{option_to_list};
 ghost use Rattle.ppp_frame.specs.Frame.{enc};
 ghost use Rattle.ppp_packet.specs.Proto.{proto_number};
 ghost use Rattle.ppp_auto.specs.declared.outbox.TheConstants.{MOST_OCTETS as MOST_PACKET};
-ghost use Rattle.ppp_link.specs.LinkOut.{entry_seen, slot_seen, AreWithin, IsWithin};
+ghost use Rattle.ppp_link.specs.LinkOut.{entry_seen, slot_seen, AreWithin, IsShort, IsWithin};
 ghost use Rattle.ppp_link.specs.Steps.{signal_told};
-ghost use Rattle.ppp_link.specs.declared.link_out.TheConstants.{MOST_OCTETS, SLOTS};
+ghost use Rattle.ppp_link.specs.declared.link_out.TheConstants.{MOST_OCTETS, MOST_PUSH, SLOTS};
 
 use arrayvec::ArrayVec;
 use ppp_auto::LayerSignal;
@@ -17,8 +17,11 @@ use ppp_packet::Proto;
 use std::alloc::Global;
 use std::marker::Model;
 
+/// The most octets of a frame to send: that of a packet of 1,500 octets, with every octet escaped.
+pub const MOST_PUSH: usize = 3014;
+
 /// The most octets of one entry: those of a whole frame that a deframer keeps.
-pub(crate) const MOST_OCTETS: usize = 8200;
+pub const MOST_OCTETS: usize = 8200;
 
 /// The most entries.
 pub(crate) const SLOTS: usize = 32;
@@ -116,7 +119,8 @@ impl LinkOut {
     /// The entry at place `i`, from 0 on.
     pub fn at(&self, i: usize) -> LinkEntry<'_>
         requires { i < length self.now }
-        ensures { slice_get self.now i ≡ Some (entry_seen result) }
+        ensures entry { slice_get self.now i ≡ Some (entry_seen result) }
+        ensures short { IsShort (entry_seen result) }
     {
         lend(self.octets.as_slice(), self.slots.as_slice(), i)
     }
@@ -179,7 +183,7 @@ fn put_octets(octets: &mut Vec<u8>, more: &[u8])
 fn write_frame(buffer: &mut FrameBuf, form: Form, proto: Proto, packet: &[u8])
     requires { length packet.now ≤ MOST_PACKET }
     ensures frame { buffer.new ≡ enc form (proto_number proto) packet.now }
-    ensures size { length buffer.new ≤ MOST_OCTETS }
+    ensures size { length buffer.new ≤ MOST_PUSH }
 {
     encode(buffer, form, proto.number(), packet).unwrap();
 }
@@ -204,7 +208,8 @@ fn slot_of(proto: Proto, signal: LayerSignal) -> Option<Slot>
 fn lend<'a>(octets: &'a [u8], slots: &[Slot], i: usize) -> LinkEntry<'a>
     requires place { i < length slots.now }
     requires within { AreWithin octets.now slots.now }
-    ensures { slice_get (map (slot_seen octets.now) slots.now) i ≡ Some (entry_seen result) }
+    ensures entry { slice_get (map (slot_seen octets.now) slots.now) i ≡ Some (entry_seen result) }
+    ensures short { IsShort (entry_seen result) }
 {
     lend_slot(octets, slots[i])
 }
@@ -212,7 +217,8 @@ fn lend<'a>(octets: &'a [u8], slots: &[Slot], i: usize) -> LinkEntry<'a>
 /// The entry of a slot.
 fn lend_slot(octets: &[u8], slot: Slot) -> LinkEntry<'_>
     requires { IsWithin octets.now slot }
-    ensures { entry_seen result ≡ slot_seen octets.now slot }
+    ensures entry { entry_seen result ≡ slot_seen octets.now slot }
+    ensures short { IsShort (entry_seen result) }
 {
     match slot {
         Slot::Push(start, end) => LinkEntry::Push(part(octets, start, end)),

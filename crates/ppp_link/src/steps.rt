@@ -74,6 +74,7 @@ impl Automata {
         ensures tables { self.new.0 ≡ self.old.0 }
         ensures did { so_far self.new.1 out.new
             ≡ each_does self.old.0 (runs bacp) (run_by on) word (so_far self.old.1 out.old) }
+        ensures few { length out.new ≤ length out.old + 5 * MOST_ADDED }
     {
         let event = if on { AutoEvent::Up } else { AutoEvent::Down };
         self.each(&NETS, event, word, outbox, out);
@@ -117,6 +118,7 @@ impl Automata {
         ensures tables { self.new.0 ≡ self.old.0 }
         ensures did { so_far self.new.1 out.new
             ≡ takes self.old.0 proto octets.now word (so_far self.old.1 out.old) }
+        ensures few { length out.new ≤ length out.old + 2 * MOST_ADDED }
     {
         self.step(proto, Given::Packet(octets), word, outbox, out);
         self.bear_rejected(rejected_in(outbox), word, outbox, out);
@@ -135,6 +137,7 @@ impl Automata {
         ensures tables { self.new.0 ≡ self.old.0 }
         ensures did { so_far self.new.1 out.new
             ≡ rejected_if self.old.0 rejected word (so_far self.old.1 out.old) }
+        ensures few { length out.new ≤ length out.old + MOST_ADDED }
     {
         let Some(number) = rejected else {
             return;
@@ -175,6 +178,7 @@ impl Automata {
         ensures tables { self.new.0 ≡ self.old.0 }
         ensures did { so_far self.new.1 out.new
             ≡ hears self.old.0 frame.entry.protocol frame.entry.info.now word (so_far self.old.1 out.old) }
+        ensures few { length out.new ≤ length out.old + 2 * MOST_ADDED }
     {
         if frame.protocol != Proto::Lcp.number() && !self.is_opened() {
             return;
@@ -193,6 +197,7 @@ impl Automata {
         ensures tables { self.new.0 ≡ self.old.0 }
         ensures did { so_far self.new.1 out.new
             ≡ hears_other self.old.0 frame.entry.protocol frame.entry.info.now (so_far self.old.1 out.old) }
+        ensures few { length out.new ≤ length out.old + 1 }
     {
         if self.is_payload(frame.protocol) {
             out.hand_up(frame.protocol, frame.info);
@@ -208,6 +213,7 @@ impl Automata {
         ensures tables { self.new.0 ≡ self.old.0 }
         ensures did { so_far self.new.1 out.new
             ≡ rejects protocol info.now (so_far self.old.1 out.old) }
+        ensures few { length out.new ≤ length out.old + 1 }
     {
         let mut packet = [0; MOST_CAP as usize];
         let cap = usize::from(self.cap());

@@ -5,5 +5,5 @@ use Rattle.ppp_link.proofs.link_out.lend.Goals as goal
 pub lend_slot-requires : goal.lend_slot-requires
 lend_slot-requires c = within-at c.args.octets.now c.args.slots.now c.args.i _ _ c.requires.within c.requires.place refl
 
-pub returns : goal.returns
-returns c = seen-at c.args.octets.now c.args.slots.now c.args.i _ _ c.requires.place refl ∙ ap (λ e. Some e) (sym c.lend_slot.ensures)
+pub returns-clause-entry : goal.returns-clause-entry
+returns-clause-entry c = seen-at c.args.octets.now c.args.slots.now c.args.i _ _ c.requires.place refl ∙ ap (λ e. Some e) (sym c.lend_slot.ensures.entry)

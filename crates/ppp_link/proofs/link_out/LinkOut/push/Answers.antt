@@ -9,6 +9,7 @@ told : (c : goal.After-push) → Put c.self.inside.octets.items c.put_octets.new
 told c =
     put-push _ _ _ _ _ _ _ c.put_octets.ensures.items c.push.ensures.items c.self.invariant.within
     (c.len-start.ensures ∙ c.self.inside.octets.ok.0) (c.len.ensures ∙ c.put_octets.new.octets.ok.0)
+    (omega (arith, ap length c.octets.ensures, c.write_frame.ensures.size))
 
 pub invariant_of-self : goal.invariant_of-self
 invariant_of-self c = record {
