@@ -23,3 +23,6 @@ mod tables;
 pub use link::{Link, MOST_AFTER_EVENT, MOST_AFTER_FRAME, MOST_AFTER_RUN, MOST_FRAME};
 pub use link_out::{LinkEntry, LinkOut, MOST_OCTETS, MOST_PUSH};
 pub use ppp_memory::Memory;
+
+#[cfg(test)]
+mod tests;
