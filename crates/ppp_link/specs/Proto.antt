@@ -1,12 +1,7 @@
 -- What the protocol of a frame is to a link.
-use Rattle.std.specs.Prelude.{ℕ, Bool, ◌==◌, ◌||◌, if◌then◌else◌, List, [], ◌∷◌, Option, Some, None}
+use Rattle.std.specs.Prelude.{ℕ, ◌==◌, ◌||◌, if◌then◌else◌, List, [], ◌∷◌, Option, Some, None}
 use Rattle.ppp_packet.specs.declared.proto.Proto.{Proto}
 use Rattle.ppp_packet.specs.declared.proto.Proto.TheVariants.{Ip, Ipv6, Osi, Mpls, Bacp}
-use Rattle.ppp_packet.specs.Proto.{proto_number}
-
--- whether two protocols are the same
-abbrev pub same_proto : Proto → Proto → Bool
-same_proto p q = proto_number p == proto_number q
 
 -- the protocols that begin once LCP is Opened, in order; BACP isn't among them
 abbrev pub nets : List Proto

@@ -1,6 +1,6 @@
 //! A link.
 
-ghost use Rattle.std.specs.Prelude.{◌≡◌, ◌≤◌, not, IfOk, option_map, length};
+ghost use Rattle.std.specs.Prelude.{◌≡◌, ◌<◌, ◌≤◌, not, IfOk, option_map, length};
 ghost use Rattle.std.specs.Option.{option_and_then};
 ghost use Rattle.ppp_auto.specs.Auto.{is_off, mine_of, peer_of};
 ghost use Rattle.ppp_auto.specs.declared.auto_event.AutoEvent.TheVariants.{AdminClose, AdminOpen, Down, Timeout, Up};
@@ -142,6 +142,7 @@ impl Link {
         ensures few { length out.new ≤ MOST_AFTER_FRAME }
         ensures used { result ≡ (fed_with self.old piece.now word).used }
         ensures within { result ≤ length piece.now }
+        ensures progress { 0 < length piece.now → 0 < result }
     {
         out.clear();
         let (ac, pf) = self.automata.short_headers();
