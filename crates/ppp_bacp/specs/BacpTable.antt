@@ -18,6 +18,10 @@ favored_rule favored = number_rule FAVORED_PEER true (λ word. Some (four_octets
 abbrev pub bacp_rules : ℕ → List Rule
 bacp_rules favored = favored_rule favored ∷ []
 
+-- Of two Favored-Peer numbers the lower one's end is favoured (RFC 2125).
+abbrev pub favours : ℕ → ℕ → Bool
+favours mine peer = nat_lt mine peer
+
 -- Two lists fit where they don't have the same number.
 abbrev pub FitsFavored : List ConfigOption → List ConfigOption → Type 0
 FitsFavored = Differs FAVORED_PEER OCTETS_U32

@@ -11,7 +11,7 @@ ghost use Rattle.ppp_options.specs.declared.number.TheConstants.{OCTETS_U32};
 ghost use Rattle.ppp_options.specs.RuleLaw.{rules_lawful};
 ghost use Rattle.ppp_options.specs.Rules.{table_by, Sendable, IsUnknown, Allows};
 ghost use Rattle.ppp_bacp.specs.BacpLaw.{bacp_is_table, bacp_fits};
-ghost use Rattle.ppp_bacp.specs.BacpTable.{FitsFavored, is_favored, bacp_rules};
+ghost use Rattle.ppp_bacp.specs.BacpTable.{FitsFavored, favours, is_favored, bacp_rules};
 ghost use Rattle.ppp_bacp.specs.declared.bacp_table.TheConstants.{FAVORED_PEER};
 
 use ppp_auto::{OptionTable, Verdict};
@@ -120,7 +120,8 @@ impl OptionTable for BacpTable {
 /// Whether the end with the first number is favoured over the one with the other: the lower number is. Of two ends with
 /// numbers that differ exactly one is.
 pub fn favoured(mine: u32, peer: u32) -> bool
-    ensures { IsTrue result ↔ (mine < peer) }
+    ensures lower { IsTrue result ↔ (mine < peer) }
+    ensures word { result ≡ favours mine peer }
 {
     mine < peer
 }

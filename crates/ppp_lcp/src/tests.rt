@@ -149,7 +149,7 @@ fn answers_requests(rt: HostRuntime) -> Result<(), Fail> {
 fn adapts_to_naks(rt: HostRuntime) -> Result<(), Fail> {
     let mut out = Outbox::new(rt.alloc())?;
     // what is suggested, where its option begins in the next request, and what stands there
-    let rows: [(&[u8], usize, &[u8]); 17] = [
+    let rows: [(&[u8], usize, &[u8]); 20] = [
         (&[1, 4, 32, 0], 4, &[1, 4, 32, 0]),
         (&[1, 4, 32, 1], 4, &[1, 4, 5, 0x78]),
         (&[1, 3, 9], 4, &[1, 4, 5, 0x78]),
@@ -162,9 +162,12 @@ fn adapts_to_naks(rt: HostRuntime) -> Result<(), Fail> {
             14,
             &[5, 6, 0, 0, 0, 0x2a],
         ),
+        (&[7, 3, 1], 20, &[7, 2, 8, 2]),
+        (&[8, 3, 1], 22, &[8, 2, 17, 4]),
         (&[17, 4, 6, 0], 24, &[17, 4, 6, 0]),
         (&[17, 4, 6, 0x41], 24, &[17, 4, 6, 0x40]),
         (&[17, 4, 5, 0], 24, &[17, 4, 6, 0x40]),
+        (&[18, 3, 1], 28, &[18, 2, 19, 4]),
         (&[19, 3, 0], 30, &[19, 4, 1, 0x61]),
         (&[23, 4, 0, 9], 34, &[23, 4, 0, 10]),
         (&[27, 4, 6, 3], 38, &[27, 4, 6, 3]),

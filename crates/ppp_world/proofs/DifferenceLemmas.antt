@@ -21,7 +21,7 @@ use Rattle.ppp_options.specs.Number.{number_in}
 use Rattle.ppp_options.specs.Rule.{Rule}
 use Rattle.ppp_options.specs.RuleLaw.{rules_lawful}
 use Rattle.ppp_options.specs.Rules.{table_by, Sendable, IsUnknown, Allows, IsTable}
-use Rattle.ppp_world.specs.Difference.{is_lower, holds_favoured}
+use Rattle.ppp_world.specs.Difference.{is_favoured, holds_favoured}
 
 -- an end with a table of rows
 abbrev pub setup_by : Bool → List Rule → (List ConfigOption → ℕ) → ℕ → Setup
@@ -53,7 +53,7 @@ module _ (extended : Bool) (magic : List ConfigOption → ℕ) (kind size : ℕ)
       allowed-numbers-differ ra rb kind size takes_a takes_b d.a.against d.b.against d.a.auto.own d.b.auto.own h.b_allows h.a_allows h.fits
 
 -- BACP's, and of two numbers that differ one is lower
-one-lower : (x y : Option ℕ) → is_some x ≡ true → is_some y ≡ true → ((m n : ℕ) → x ≡ Some m → y ≡ Some n → m ≢ n) → is_lower x y ≡ not (is_lower y x)
+one-lower : (x y : Option ℕ) → is_some x ≡ true → is_some y ≡ true → ((m n : ℕ) → x ≡ Some m → y ≡ Some n → m ≢ n) → is_favoured x y ≡ not (is_favoured y x)
 one-lower None y some_x some_y differ = cc
 one-lower (Some m) None some_x some_y differ = cc
 one-lower (Some m) (Some n) some_x some_y differ = let other = differ m n refl refl in grind (arith, nat_tests)
