@@ -1,14 +1,8 @@
 -- Lists that a loop walks.
-use Rattle.std.proofs.Common.{◌≡◌, zero, suc, ℕ, ◌≤◌, List, [], ◌∷◌, drop, length, Some, slice_get, refl, arith}
+use Rattle.std.proofs.Common.{◌≡◌, zero, suc, ℕ, List, [], ◌∷◌, drop, Some, slice_get}
 
 -- what is left at a place begins with what stands there
 pub drop-get : {X : Type 0} (xs : List X) (i : ℕ) (x : X) → slice_get xs i ≡ Some x → drop i xs ≡ x ∷ drop (suc i) xs
 drop-get [] i x is = absurd (cc)
 drop-get (y ∷ ys) zero x is = cc
 drop-get (y ∷ ys) (suc i) x is = drop-get ys i x is
-
-pub drop-past : {X : Type 0} (n : ℕ) (xs : List X) → length xs ≤ n → drop n xs ≡ []
-drop-past zero [] past = refl
-drop-past zero (x ∷ xs) past = absurd (omega arith)
-drop-past (suc n) [] past = refl
-drop-past (suc n) (x ∷ xs) past = drop-past n xs (omega arith)

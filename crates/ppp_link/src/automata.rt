@@ -6,9 +6,9 @@ ghost use Rattle.ppp_packet.specs.Code.{code_number};
 ghost use Rattle.ppp_packet.specs.Packet.{packet_octets};
 ghost use Rattle.ppp_packet.specs.Proto.{proto_number, proto_of};
 ghost use Rattle.ppp_packet.specs.declared.proto.Proto.TheVariants.{Lcp};
-ghost use Rattle.ppp_auto.specs.Auto.{Auto, begun, is_opened, is_timed, mine_of, peer_of};
+ghost use Rattle.ppp_auto.specs.Auto.{Auto, begun, is_opened, mine_of, peer_of};
 ghost use Rattle.ppp_auto.specs.declared.auto.TheConstants.{LEAST_CAP, MOST_CAP};
-ghost use Rattle.ppp_link.specs.Automata.{all_changed, auto_at, automata_begun, begun_if, cap_of, changed, form_for, granted_form, is_there, is_timed_at, mru_of, reads_ac, reads_pf, whole_form, with_cap};
+ghost use Rattle.ppp_link.specs.Automata.{all_changed, auto_at, automata_begun, begun_if, cap_of, changed, form_for, granted_form, is_there, is_timed_at, mru_of, reads_ac, reads_pf, timed_if, whole_form, with_cap};
 ghost use Rattle.ppp_conf.specs.EndConfig.{end_seen};
 ghost use Rattle.ppp_link.specs.LinkSettings.{settings_of};
 ghost use Rattle.ppp_link.specs.LinkTables.{table_if, table_of, tables_seen};
@@ -144,9 +144,13 @@ impl Automata {
     pub(crate) fn timer_on(&self, proto: Proto) -> bool
         ensures { result ≡ is_timed_at self.now.1 proto }
     {
-        match self.state(proto) {
-            Some(state) => is_timed(state),
-            None => false,
+        match proto {
+            Proto::Lcp => self.lcp.timer_on(),
+            Proto::Ip => timer_if(&self.ip),
+            Proto::Ipv6 => timer_if(&self.ipv6),
+            Proto::Osi => timer_if(&self.osi),
+            Proto::Mpls => timer_if(&self.mpls),
+            Proto::Bacp => timer_if(&self.bacp),
         }
     }
 
@@ -269,20 +273,6 @@ fn form_by(list: &OptList) -> Form
     }
 }
 
-/// Whether the restart timer is on in a state.
-fn is_timed(state: AutoState) -> bool
-    ensures { result ≡ is_timed state }
-{
-    matches!(
-        state,
-        AutoState::Closing
-            | AutoState::Stopping
-            | AutoState::ReqSent
-            | AutoState::AckRcvd
-            | AutoState::AckSent
-    )
-}
-
 /// What happens to an automaton.
 fn act<T: OptionTable>(
     automaton: &mut Automaton<T>,
@@ -337,6 +327,15 @@ fn state_if<T: OptionTable>(automaton: &Option<Automaton<T>>) -> Option<AutoStat
     match automaton {
         Some(automaton) => Some(automaton.state()),
         None => None,
+    }
+}
+
+fn timer_if<T: OptionTable>(automaton: &Option<Automaton<T>>) -> bool
+    ensures { result ≡ timed_if (autos_in automaton.now) }
+{
+    match automaton {
+        Some(automaton) => automaton.timer_on(),
+        None => false,
     }
 }
 

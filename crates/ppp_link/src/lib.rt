@@ -25,4 +25,6 @@ pub use link_out::{LinkEntry, LinkOut, MOST_OCTETS, MOST_PUSH};
 pub use ppp_memory::Memory;
 
 #[cfg(test)]
+mod pair;
+#[cfg(test)]
 mod tests;
