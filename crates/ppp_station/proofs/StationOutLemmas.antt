@@ -8,7 +8,7 @@ use Rattle.std.specs.List.{slice_get}
 use Rattle.std.specs.Option.{option_map}
 use Rattle.ppp_station.specs.declared.station_out.Slot.{Slot}
 use Rattle.ppp_station.specs.declared.station_out.Slot.TheVariants as kept
-use Rattle.ppp_station.specs.StationOut.{Entry, Push, Got, Hang, all_octets, octets_of, slot_seen, IsWithin, AreWithin}
+use Rattle.ppp_station.specs.StationOut.{Entry, Push, Got, Hang, all_octets, octets_of, slot_seen, AreShort, IsShortFrame, IsWithin, AreWithin}
 
 pub all_octets-append : (es more : List Entry) → all_octets (es ++ more) ≡ all_octets es + all_octets more
 all_octets-append [] more = omega arith
@@ -44,6 +44,10 @@ all-seen octets more (slot ∷ slots) h =
 within-snoc : (octets : List ℕ) (slots : List Slot) (slot : Slot) → AreWithin octets slots → IsWithin octets slot → AreWithin octets (slots ++ slot ∷ [])
 within-snoc octets [] slot h k = (k, tt)
 within-snoc octets (x ∷ xs) slot h k = (h.0, within-snoc octets xs slot h.1 k)
+
+pub short-snoc : (es : List Entry) (e : Entry) → AreShort es → IsShortFrame e → AreShort (es ++ e ∷ [])
+short-snoc [] e all one = (one, tt)
+short-snoc (x ∷ xs) e all one = (all.0, short-snoc xs e all.1 one)
 
 -- one slot more, with octets of its own
 pub record Put (octets all : List ℕ) (slots all_slots : List Slot) (entry : Entry) : Type 0 where

@@ -14,8 +14,8 @@ use Rattle.ppp_link.specs.LinkOut.{Entry as LinkTold}
 use Rattle.ppp_link.specs.LinkOut as told
 use Rattle.ppp_link.specs.LinkTables.{LinkTables}
 use Rattle.ppp_link.specs.Steps.{Did, begins}
-use Rattle.ppp_station.specs.Orders.{AreShort, Order, auto_by, caused, of_link, of_run, orders, packet_of, packets_of, sent_by}
-use Rattle.ppp_station.specs.StationOut.{Entry, Push, Got, Hang}
+use Rattle.ppp_station.specs.Orders.{Order, auto_by, caused, of_link, of_run, orders, packet_of, packets_of, sent_by}
+use Rattle.ppp_station.specs.StationOut.{AreShort, Entry, Push, Got, Hang}
 use Rattle.ppp_station.specs.Steps.{Done, Happening, all_plain, and_tells, hands_up, is_opened_at, link_does, link_done, opener_of, plain, runs, works, works_one}
 use Rattle.ppp_station.proofs.OrdersLemmas.{AllShort, IsShortPush, LinkTracks, Tracks, link_packet, link_packets, auto_by-append, link-tracks, no-orders, run-tracks, sent_by-append}
 use Rattle.ppp_station.proofs.SignalLemmas.{IsParted, all_caused, link-parted}

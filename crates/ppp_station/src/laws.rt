@@ -4,8 +4,9 @@ ghost use Rattle.std.specs.Prelude.{◌≡◌, ◌≢◌, ◌-◌, ◌≤◌, �
 ghost use Rattle.ppp_link.specs.Automata.{auto_at};
 ghost use Rattle.ppp_link.specs.Link.{Link};
 ghost use Rattle.ppp_packet.specs.declared.proto.Proto.{Proto};
-ghost use Rattle.ppp_station.specs.Orders.{AreShort, auto_by, orders, packets_of, sent_by};
+ghost use Rattle.ppp_station.specs.Orders.{auto_by, orders, packets_of, sent_by};
 ghost use Rattle.ppp_station.specs.Station.{on_link};
+ghost use Rattle.ppp_station.specs.StationOut.{AreShort};
 ghost use Rattle.ppp_station.specs.Steps.{Happening, link_done};
 
 /// Does nothing. Its clauses are laws on what an event does to the automaton of each protocol on its link, where that is

@@ -6,6 +6,7 @@ ghost use Rattle.ppp_conf.specs.EndConfig.{end_seen};
 ghost use Rattle.ppp_link.specs.LinkSettings.{settings_of};
 ghost use Rattle.ppp_link.specs.LinkTables.{tables_seen};
 ghost use Rattle.ppp_station.specs.Station.{all_settings, held_in, link_ready, on_link, opens_all, settings_in, station_does, IsOfLink, IsOfLinks, IsReady};
+ghost use Rattle.ppp_station.specs.StationOut.{AreShort};
 ghost use Rattle.ppp_station.specs.Steps.{happening_seen};
 ghost use Rattle.ppp_station.specs.declared.station.TheConstants.{CONTROLS, MOST_LINKS};
 
@@ -75,6 +76,7 @@ impl Station {
         requires { IsOfLinks ev (length self.old) }
         ensures links { self.new ≡ (station_does ev.entry self.old word).links }
         ensures out { out.new ≡ (station_does ev.entry self.old word).out }
+        ensures short { AreShort out.new.entries }
     {
         match ev {
             StationEvent::Up(link) => self.happens(link, Happening::LineUp, word, out),
@@ -130,6 +132,7 @@ impl Station {
         requires { IsOfLink (length self.old) number }
         ensures links { self.new ≡ (on_link (happening_seen what.entry) number self.old word).links }
         ensures out { out.new ≡ (on_link (happening_seen what.entry) number self.old word).out }
+        ensures short { AreShort out.new.entries }
     {
         out.clear();
         let link = &mut self.links[usize::from(number) - 1];
