@@ -1,6 +1,7 @@
 mod FrameLemmas
 mod ListLemmas
 mod OrdersLemmas
+mod PhaseLemmas
 mod SignalLemmas
 mod StationLemmas
 mod StationOutLemmas

@@ -133,7 +133,7 @@ caps-send t p word Osi k o = (no-orders t p word o).1
 caps-send t p word Mpls k o = (no-orders t p word o).1
 caps-send t p word Bacp k o = (no-orders t p word o).1
 
-given-auto : (p : Proto) (t : LinkTables) (word : ℕ) (q : Proto) (given : Given) (k : Automata) →
+pub given-auto : (p : Proto) (t : LinkTables) (word : ℕ) (q : Proto) (given : Given) (k : Automata) →
     auto_at (after t q given word k) p ≡ auto_by t p word (of_given p t word q given k) (auto_at k p)
 given-auto p t word q given k =
     let own = changed k q (auto_given (table_of t q) given word) in
@@ -372,7 +372,7 @@ takes-tracks p t word q octets did =
     behind p t word _ _ did mid (rejected_if t rejected word mid) (given-tracks p t word q (Packet octets) did) (rejected-tracks p t word rejected mid)
 
 -- a Protocol-Reject that is sent
-reject-auto : (p : Proto) (k : Automata) (id : ℕ) → auto_at (record k { reject_id = id }) p ≡ auto_at k p
+pub reject-auto : (p : Proto) (k : Automata) (id : ℕ) → auto_at (record k { reject_id = id }) p ≡ auto_at k p
 reject-auto Lcp k id = refl
 reject-auto Ip k id = refl
 reject-auto Ipv6 k id = refl

@@ -99,7 +99,7 @@ abbrev pub IsParted : Proto → List Entry → Type 0
 IsParted p es = (link_packets p es ≡ []) ⊎ (all_caused p es ≡ [])
 
 -- LCP and BACP don't go Up and Down by signals
-uncaused : (p : Proto) (es : List Entry) → is_net p ≡ false → all_caused p es ≡ []
+pub uncaused : (p : Proto) (es : List Entry) → is_net p ≡ false → all_caused p es ≡ []
 uncaused p [] e = refl
 uncaused p (Push octets ∷ es) e = uncaused p es e
 uncaused p (LcpUp ∷ es) e = rw e (uncaused p es e)
@@ -138,7 +138,7 @@ signal-quiet p Bacp signal.Started e = refl
 signal-quiet p Bacp signal.Finished e = refl
 signal-quiet p Bacp (signal.ProtocolRejected n) e = refl
 
-told-quiet : (form : Form) (p q : Proto) (es : List Told) → is_same Lcp q ≡ false → all_caused p (told_all form q es) ≡ []
+pub told-quiet : (form : Form) (p q : Proto) (es : List Told) → is_same Lcp q ≡ false → all_caused p (told_all form q es) ≡ []
 told-quiet form p q [] e = refl
 told-quiet form p q (Send octets ∷ es) e = told-quiet form p q es e
 told-quiet form p q (Signal told ∷ es) e =
