@@ -59,12 +59,12 @@ unfolding read_in
 control-read form p octets few =
     let n = proto_number p in
     let taken : answer_of open_reader.reader (inside form n octets) ≡ Taken (reads n octets) =
-        framed_answered open_reader.reader n octets (inside form n octets) (
-          headed form n octets,
-          open_headed form n octets (numbered p),
-          escapes_stuffed form.map (checked (headed form n octets)),
-          omega (arith, length_sent form n octets, few),
-        ) in
+    framed_answered open_reader.reader n octets (inside form n octets) (
+      headed form n octets,
+      open_headed form n octets (numbered p),
+      escapes_stuffed form.map (checked (headed form n octets)),
+      omega (arith, length_sent form n octets, few),
+    ) in
     ap (λ s. s.left.frame) (feed_enc open_reader form n octets refl ∙ ap (λ v. ends_by open_reader v (length (enc form n octets))) taken)
 
 -- a frame isn't shorter than what it carries

@@ -302,8 +302,8 @@ behind p t word os more a b c one two =
           ∙ ap (λ xs. xs ++ sent_by t p word more (auto_at b.automata p)) (one.sent (two.short short))
           ∙ append_assoc (link_packets p a.out) (sent_by t p word os first) (sent_by t p word more (auto_at b.automata p))
           ∙ ap (λ xs. link_packets p a.out ++ xs) (
-            ap (λ o. sent_by t p word os first ++ sent_by t p word more o) one.auto
-            ∙ sym (sent_by-append t p word os more first)
+          ap (λ o. sent_by t p word os first ++ sent_by t p word more o) one.auto
+          ∙ sym (sent_by-append t p word os more first)
           );
     }
 
@@ -380,7 +380,6 @@ reject-auto Osi k id = refl
 reject-auto Mpls k id = refl
 reject-auto Bacp k id = refl
 
-
 rejects-auto : (p : Proto) (t : LinkTables) (word number : ℕ) (info : List ℕ) (k : Automata) →
     auto_at k p ≡ auto_by t p word (rejects_as p number info k) (auto_at k p)
 rejects-auto Lcp t word number info k = refl
@@ -415,9 +414,9 @@ rejects-tracks p t word number info did =
           let fits = enc-longer whole_form (proto_number Lcp) packet in
           flat_map-append (link_packet p) did.out (push ∷ [])
           ∙ ap (λ xs. link_packets p did.out ++ xs) (
-            append-nil (packet_if p (read_in (enc whole_form (proto_number Lcp) packet)))
-            ∙ ap (packet_if p) (control-read whole_form Lcp packet (omega (arith, few, fits)))
-            ∙ rejects-sent p t word number info k
+          append-nil (packet_if p (read_in (enc whole_form (proto_number Lcp) packet)))
+          ∙ ap (packet_if p) (control-read whole_form Lcp packet (omega (arith, few, fits)))
+          ∙ rejects-sent p t word number info k
           );
     }
 

@@ -59,7 +59,7 @@ put : (octets more all : List ℕ) (slots all_slots : List Slot) (slot : Slot) (
     AreWithin octets slots → IsWithin (octets ++ more) slot → slot_seen (octets ++ more) slot ≡ entry → Put octets all slots all_slots entry
 put octets more all slots all_slots slot entry a b h w e =
     let shown : map (slot_seen all) all_slots ≡ map (slot_seen octets) slots ++ entry ∷ [] =
-        rw (a, b) (map-append (slot_seen (octets ++ more)) slots (slot ∷ []) ∙ rw (all-seen octets more slots h, e) refl) in
+    rw (a, b) (map-append (slot_seen (octets ++ more)) slots (slot ∷ []) ∙ rw (all-seen octets more slots h, e) refl) in
     record {
       within = rw (a, b) (within-snoc (octets ++ more) slots slot (all-within octets more slots h) w);
       shown = shown;
@@ -91,7 +91,7 @@ pub put-hang : (octets : List ℕ) (slots all_slots : List Slot) (link : ℕ) �
     AreWithin octets slots → Put octets octets slots all_slots (Hang link)
 put-hang octets slots all_slots link b h =
     let shown : map (slot_seen octets) all_slots ≡ map (slot_seen octets) slots ++ Hang link ∷ [] =
-        rw b (map-append (slot_seen octets) slots (kept.Hang link ∷ [])) in
+    rw b (map-append (slot_seen octets) slots (kept.Hang link ∷ [])) in
     record {
       within = rw b (within-snoc octets slots (kept.Hang link) h tt);
       shown = shown;

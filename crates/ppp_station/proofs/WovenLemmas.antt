@@ -149,7 +149,7 @@ works-follows p l word (e ∷ es) done =
     let one = one-follows p l word e done in
     let own = works-follows p l word es mid in
     let rest : Follows p l t word (all_caused p es) (woven p t word es (auto_at mid.link.automata p)) mid (works l word es mid) =
-        subst (λ t. Follows p l t word (all_caused p es) (woven p t word es (auto_at mid.link.automata p)) mid (works l word es mid)) one.tables own in
+    subst (λ t. Follows p l t word (all_caused p es) (woven p t word es (auto_at mid.link.automata p)) mid (works l word es mid)) one.tables own in
     record {
       tables = rest.tables ∙ one.tables;
       auto = rest.auto ∙ ap (auto_by t p word (all_caused p es)) one.auto ∙ sym (auto_by-append t p word (caused p e) (all_caused p es) o);

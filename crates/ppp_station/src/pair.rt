@@ -1,5 +1,8 @@
 //! Two stations that talk, for tests: steps, and the text that comes of them.
 
+ghost use Rattle.std.specs.Prelude.{IsTrue};
+ghost use Rattle.ppp_station.specs.Station.{IsOfLinks};
+
 use crate::{Station, StationEntry, StationEvent, StationOut};
 use ppp_conf::{EndConfig, read_config};
 use ppp_frame::{Deframer, Form, FrameBuf, encode};
@@ -50,7 +53,7 @@ pub(crate) enum Step<'a> {
 pub(crate) fn make_end(alloc: Global, config: &EndConfig, word: u64) -> Result<End, Fail> {
     let station = Station::new(alloc, config)?;
     let mut lines = Vec::new(alloc);
-    for _ in 0..station.links() {
+    for _ in 0..usize::from(station.links()) + 1 {
         lines.push(Vec::new(alloc))?;
     }
     Ok(End {
@@ -104,6 +107,14 @@ pub(crate) fn write_other(
     }
 }
 
+/// Puts octets on the line of a link.
+pub(crate) fn put(lines: &mut Vec<Vec<u8>>, link: u8, octets: &[u8]) -> Result<(), Fail> {
+    if let Some(line) = lines.get_mut(usize::from(link)) {
+        line.extend_from_slice(octets)?;
+    }
+    Ok(())
+}
+
 /// Writes what an event made, and puts its frames on the lines.
 pub(crate) fn post(
     name: &str,
@@ -113,10 +124,10 @@ pub(crate) fn post(
 ) -> Result<(), Fail> {
     for i in 0..out.count() {
         let entry = out.at(i);
-        if let StationEntry::Push { link, octets } = entry {
-            lines[usize::from(link) - 1].extend_from_slice(octets)?;
+        match entry {
+            StationEntry::Push { link, octets } => put(lines, link, octets)?,
+            entry => write_other(name, entry, text)?,
         }
-        write_other(name, entry, text)?;
     }
     Ok(())
 }
@@ -140,11 +151,7 @@ pub(crate) fn write_frame(
 }
 
 /// Writes all that an event made.
-pub(crate) fn write_all(
-    alloc: Global,
-    out: &StationOut,
-    text: &mut String,
-) -> Result<(), Fail> {
+pub(crate) fn write_all(alloc: Global, out: &StationOut, text: &mut String) -> Result<(), Fail> {
     let mut reader = Deframer::new(alloc, 8200)?;
     for i in 0..out.count() {
         let entry = out.at(i);
@@ -167,9 +174,26 @@ pub(crate) fn write_raw(out: &StationOut, text: &mut String) -> Result<(), Fail>
     Ok(())
 }
 
-/// Does an event of an end.
+/// Whether an event is of one of so many links.
+pub(crate) fn is_of(event: StationEvent<'_>, links: u8) -> bool
+    ensures { IsTrue result → IsOfLinks event.entry links }
+{
+    match event {
+        StationEvent::Up(link)
+        | StationEvent::Down(link)
+        | StationEvent::AdminOpen(link, _)
+        | StationEvent::AdminClose(link, _)
+        | StationEvent::Timeout(link, _)
+        | StationEvent::Bytes(link, _) => 1 <= link && link <= links,
+        StationEvent::Reset => true,
+    }
+}
+
+/// Does an event of an end, if it is of one of its links.
 pub(crate) fn happen(end: &mut End, event: StationEvent<'_>) {
-    end.station.event(event, end.word, &mut end.out);
+    if is_of(event, end.station.links()) {
+        end.station.event(event, end.word, &mut end.out);
+    }
 }
 
 /// An end takes what is on the line of a link, frame by frame.
@@ -181,7 +205,10 @@ pub(crate) fn take_line(
     lines: &mut Vec<Vec<u8>>,
     text: &mut String,
 ) -> Result<(), Fail> {
-    let octets = mem::replace(&mut end.lines[usize::from(link) - 1], Vec::new(alloc));
+    let Some(line) = end.lines.get_mut(usize::from(link)) else {
+        return Ok(());
+    };
+    let octets = mem::replace(line, Vec::new(alloc));
     let mut rest = octets.as_slice();
     for _ in 0..octets.len() {
         if rest.is_empty() {
@@ -189,7 +216,7 @@ pub(crate) fn take_line(
         }
         happen(end, StationEvent::Bytes(link, rest));
         post(name, &end.out, lines, text)?;
-        rest = &rest[end.out.used()..];
+        rest = rest.get(end.out.used()..).unwrap_or(&[]);
     }
     Ok(())
 }
@@ -197,9 +224,23 @@ pub(crate) fn take_line(
 /// Each end takes what the other sent, b first, until both are quiet.
 pub(crate) fn settle(alloc: Global, pair: &mut Pair) -> Result<(), Fail> {
     for _ in 0..8 {
-        for link in 1..pair.a.station.links() + 1 {
-            take_line(alloc, "b ", &mut pair.b, link, &mut pair.a.lines, &mut pair.text)?;
-            take_line(alloc, "a ", &mut pair.a, link, &mut pair.b.lines, &mut pair.text)?;
+        for link in 0..pair.a.station.links() + 1 {
+            take_line(
+                alloc,
+                "b ",
+                &mut pair.b,
+                link,
+                &mut pair.a.lines,
+                &mut pair.text,
+            )?;
+            take_line(
+                alloc,
+                "a ",
+                &mut pair.a,
+                link,
+                &mut pair.b.lines,
+                &mut pair.text,
+            )?;
         }
     }
     Ok(())
@@ -215,6 +256,9 @@ pub(crate) fn write_states(station: &Station, link: u8, text: &mut String) -> Re
         Proto::Mpls,
         Proto::Bacp,
     ];
+    if link == 0 || link > station.links() {
+        return Ok(());
+    }
     for proto in protos {
         match station.link(link).state(proto) {
             Some(state) => write!(text, "{state} ")?,

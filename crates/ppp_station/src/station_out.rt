@@ -99,7 +99,7 @@ impl StationOut {
         lend(self.octets.as_slice(), self.slots.as_slice(), i)
     }
 
-    /// How many octets the event used that brought octets, and 0 for another event.
+    /// How many octets the event used that brought octets, at least one where there is one; 0 for another event.
     pub fn used(&self) -> usize
         ensures { result ≡ self.now.used }
     {
@@ -145,7 +145,10 @@ impl StationOut {
     {
         let start = self.octets.len();
         put_octets(&mut self.octets, octets);
-        put_slot(&mut self.slots, Slot::Got(protocol, start, self.octets.len()));
+        put_slot(
+            &mut self.slots,
+            Slot::Got(protocol, start, self.octets.len()),
+        );
     }
 
     /// Puts at the end that LCP is done with a line.

@@ -6,13 +6,15 @@ use ppp_packet::Proto;
 use std::test::Fail;
 
 /// Both ends have two links and speak everything.
-const ALL: &str = "links = 2\na.protocols = [\"ip\", \"ipv6\", \"osi\", \"mpls\"]\na.ip = \"10.0.0.1\"\n\
+const ALL: &str =
+    "links = 2\na.protocols = [\"ip\", \"ipv6\", \"osi\", \"mpls\"]\na.ip = \"10.0.0.1\"\n\
     a.give = \"10.0.0.2\"\na.ifid = \"0000000000000001\"\na.mrru = 1500\na.disc = \"1:61\"\na.link_disc = 10\na.favored = 1\na.bap = true\n\
     b.protocols = [\"ip\", \"ipv6\", \"osi\", \"mpls\"]\nb.ifid = \"0000000000000002\"\nb.mrru = 1500\nb.disc = \"1:62\"\nb.link_disc = 20\n\
     b.favored = 2\nb.bap = true";
 
 /// Both ends speak IPCP, on two links.
-const IP: &str = "links = 2\na.protocols = [\"ip\"]\na.ip = \"10.0.0.1\"\nb.protocols = [\"ip\"]\nb.ip = \"10.0.0.2\"";
+const IP: &str =
+    "links = 2\na.protocols = [\"ip\"]\na.ip = \"10.0.0.1\"\nb.protocols = [\"ip\"]\nb.ip = \"10.0.0.2\"";
 
 /// LCP is opened on the second link.
 const OPENING: &[Step<'static>] = &[
@@ -40,17 +42,23 @@ fn each_protocol_opens(rt: HostRuntime) -> Result<(), Fail> {
         &rt,
         ALL,
         &[],
-        &[(&[Step::States(1), Step::States(2), Step::Counts], "Initial Starting Starting Starting Starting Starting ; Initial Starting Starting Starting Starting Starting ; \
+        &[(
+            &[Step::States(1), Step::States(2), Step::Counts],
+            "Initial Starting Starting Starting Starting Starting ; Initial Starting Starting Starting Starting Starting ; \
             Initial Starting Starting Starting Starting Starting ; Initial Starting Starting Starting Starting Starting ; \
-            links 2 used 0 held 0; ")],
+            links 2 used 0 held 0; ",
+        )],
     )?;
     check(
         rt.alloc(),
         &rt,
         ALL,
         OPENING,
-        &[(&[Step::States(1), Step::States(2)], "Initial Starting Starting Starting Starting Starting ; Initial Starting Starting Starting Starting Starting ; \
-            Opened Opened Opened Opened Opened Starting ; Opened Opened Opened Opened Opened Starting ; ")],
+        &[(
+            &[Step::States(1), Step::States(2)],
+            "Initial Starting Starting Starting Starting Starting ; Initial Starting Starting Starting Starting Starting ; \
+            Opened Opened Opened Opened Opened Starting ; Opened Opened Opened Opened Opened Starting ; ",
+        )],
     )
 }
 
@@ -64,8 +72,20 @@ fn goes_through_its_phases(rt: HostRuntime) -> Result<(), Fail> {
         IP,
         &[],
         &[
-            (&[datagram, unknown, Step::States(2)], "Initial Starting - - - - ; Initial Starting - - - - ; "),
-            (&[Step::All(Up(2)), Step::All(AdminOpen(2, Proto::Lcp)), datagram, unknown, Step::All(Timeout(2, Proto::Lcp))], "push 2 c021 0101000a050600000004; push 2 c021 0101000a050600000004; "),
+            (
+                &[datagram, unknown, Step::States(2)],
+                "Initial Starting - - - - ; Initial Starting - - - - ; ",
+            ),
+            (
+                &[
+                    Step::All(Up(2)),
+                    Step::All(AdminOpen(2, Proto::Lcp)),
+                    datagram,
+                    unknown,
+                    Step::All(Timeout(2, Proto::Lcp)),
+                ],
+                "push 2 c021 0101000a050600000004; push 2 c021 0101000a050600000004; ",
+            ),
         ],
     )?;
     check(
@@ -73,7 +93,10 @@ fn goes_through_its_phases(rt: HostRuntime) -> Result<(), Fail> {
         &rt,
         IP,
         IP_CLOSED,
-        &[(&[Step::States(2), datagram, unknown, unknown], "Opened Req-Sent - - - - ; Opened Closed - - - - ; push 2 c021 080100098001010203; push 2 c021 080200098001010203; ")],
+        &[(
+            &[Step::States(2), datagram, unknown, unknown],
+            "Opened Req-Sent - - - - ; Opened Closed - - - - ; push 2 c021 080100098001010203; push 2 c021 080200098001010203; ",
+        )],
     )?;
     check(
         rt.alloc(),
@@ -81,12 +104,55 @@ fn goes_through_its_phases(rt: HostRuntime) -> Result<(), Fail> {
         IP,
         OPENING,
         &[
-            (&[datagram, Step::Frame(2, 0x0023, &[1]), Step::Frame(1, 0x0021, &[0x45, 0])], "got None 0021 4500; push 2 c021 08010007002301; "),
-            (&[Step::All(Down(2)), Step::States(2), Step::States(1)], "Starting Starting - - - - ; Opened Opened - - - - ; Initial Starting - - - - ; Initial Starting - - - - ; "),
-            (&[Step::A(AdminClose(2, Proto::Ip)), Step::Settle, Step::States(2), datagram], "Opened Closed - - - - ; Opened Stopping - - - - ; "),
-            (&[Step::A(AdminClose(2, Proto::Lcp)), Step::Settle, Step::States(2)], "a hang 2; Closed Starting - - - - ; Stopping Starting - - - - ; "),
-            (&[Step::B(AdminClose(2, Proto::Lcp)), Step::Settle, Step::A(Timeout(2, Proto::Lcp)), Step::A(Down(2)), Step::States(2)], "b hang 2; a hang 2; Starting Starting - - - - ; Closed Starting - - - - ; "),
-            (&[Step::All(Bytes(2, &[0x7e, 0xff, 0x7d, 0x23])), Step::Counts, Step::A(Reset), Step::Counts, Step::States(2)], "links 2 used 4 held 2; links 2 used 0 held 0; Initial Starting - - - - ; Opened Opened - - - - ; "),
+            (
+                &[
+                    datagram,
+                    Step::Frame(2, 0x0023, &[1]),
+                    Step::Frame(1, 0x0021, &[0x45, 0]),
+                ],
+                "got None 0021 4500; push 2 c021 08010007002301; ",
+            ),
+            (
+                &[Step::All(Down(2)), Step::States(2), Step::States(1)],
+                "Starting Starting - - - - ; Opened Opened - - - - ; Initial Starting - - - - ; Initial Starting - - - - ; ",
+            ),
+            (
+                &[
+                    Step::A(AdminClose(2, Proto::Ip)),
+                    Step::Settle,
+                    Step::States(2),
+                    datagram,
+                ],
+                "Opened Closed - - - - ; Opened Stopping - - - - ; ",
+            ),
+            (
+                &[
+                    Step::A(AdminClose(2, Proto::Lcp)),
+                    Step::Settle,
+                    Step::States(2),
+                ],
+                "a hang 2; Closed Starting - - - - ; Stopping Starting - - - - ; ",
+            ),
+            (
+                &[
+                    Step::B(AdminClose(2, Proto::Lcp)),
+                    Step::Settle,
+                    Step::A(Timeout(2, Proto::Lcp)),
+                    Step::A(Down(2)),
+                    Step::States(2),
+                ],
+                "b hang 2; a hang 2; Starting Starting - - - - ; Closed Starting - - - - ; ",
+            ),
+            (
+                &[
+                    Step::All(Bytes(2, &[0x7e, 0xff, 0x7d, 0x23])),
+                    Step::Counts,
+                    Step::A(Reset),
+                    Step::Counts,
+                    Step::States(2),
+                ],
+                "links 2 used 4 held 2; links 2 used 0 held 0; Initial Starting - - - - ; Opened Opened - - - - ; ",
+            ),
         ],
     )
 }
@@ -94,7 +160,8 @@ fn goes_through_its_phases(rt: HostRuntime) -> Result<(), Fail> {
 #[test]
 fn unknown_code_is_rejected(rt: HostRuntime) -> Result<(), Fail> {
     let octets = [
-        0x7e, 0xff, 0x7d, 0x23, 0xc0, 0x21, 0x7d, 0x2c, 0x7d, 0x27, 0x7d, 0x20, 0x7d, 0x24, 0x87, 0xe8, 0x7e,
+        0x7e, 0xff, 0x7d, 0x23, 0xc0, 0x21, 0x7d, 0x2c, 0x7d, 0x27, 0x7d, 0x20, 0x7d, 0x24, 0x87,
+        0xe8, 0x7e,
     ];
     check(
         rt.alloc(),
