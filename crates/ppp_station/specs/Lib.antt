@@ -1,0 +1,4 @@
+pub mod Orders
+pub mod Station
+pub mod StationOut
+pub mod Steps

@@ -1,0 +1,186 @@
+//! A station.
+
+ghost use Rattle.std.specs.Prelude.{◌≡◌, ◌+◌, ◌-◌, ◌≤◌, ◌++◌, ◌∷◌, [], length, map, IfOk, OnOk, Some, slice_get};
+ghost use Rattle.std.specs.List.{AllByRecursion};
+ghost use Rattle.ppp_conf.specs.EndConfig.{end_seen};
+ghost use Rattle.ppp_link.specs.LinkSettings.{settings_of};
+ghost use Rattle.ppp_link.specs.LinkTables.{tables_seen};
+ghost use Rattle.ppp_station.specs.Station.{all_settings, held_in, link_ready, on_link, opens_all, settings_in, station_does, IsOfLink, IsOfLinks, IsReady};
+ghost use Rattle.ppp_station.specs.Steps.{happening_seen};
+ghost use Rattle.ppp_station.specs.declared.station.TheConstants.{CONTROLS, MOST_LINKS};
+
+use crate::happening::{Happening, happen};
+use crate::station_event::StationEvent;
+use crate::station_out::StationOut;
+use crate::steps::work;
+use ppp_conf::EndConfig;
+use ppp_link::{Link, LinkOut};
+use ppp_memory::Memory;
+use ppp_packet::Proto;
+use std::alloc::Global;
+use std::marker::Model;
+
+/// The most links.
+pub const MOST_LINKS: u8 = 16;
+
+/// The control protocols above LCP, in order.
+const CONTROLS: [Proto; 5] = [
+    Proto::Ip,
+    Proto::Ipv6,
+    Proto::Osi,
+    Proto::Mpls,
+    Proto::Bacp,
+];
+
+/// One whole end. It is seen as the list of its links.
+#[derive(Drop)]
+pub struct Station {
+    links: Vec<Link>,
+    told: LinkOut,
+    nets: LinkOut,
+}
+
+impl Model for Station {
+    ghost use Rattle.std.specs.Prelude.{List, length, ◌≤◌};
+    ghost use Rattle.ppp_link.specs.Link.{Link};
+    ghost use Rattle.ppp_station.specs.declared.station.TheConstants.{MOST_LINKS};
+
+    ghost Value = { List Link };
+
+    ghost view = { λ s. s.links.items };
+
+    ghost invariant = { λ s. length s.links.items ≤ MOST_LINKS };
+}
+
+impl Station {
+    /// A station of these settings. Every control protocol that is configured above LCP is to be opened, so it is in
+    /// Starting; LCP is in Initial. It takes the memory for all that it holds later.
+    pub fn new(alloc: Global, config: &EndConfig) -> Result<Station, Memory>
+        ensures ready { IfOk result (λ s. AllByRecursion IsReady s) }
+        ensures settings { IfOk result (λ s. settings_in s ≡ all_settings config.now.links 1 (end_seen config.now)) }
+    {
+        let mut told = LinkOut::new(alloc)?;
+        let nets = LinkOut::new(alloc)?;
+        let mut links = Vec::new(alloc);
+        for i in 0..config.links {
+            let link = ready_link(alloc, config, i + 1, &mut told)?;
+            put(&mut links, link)?;
+        }
+        Ok(Station { links, told, nets })
+    }
+
+    /// Does an event, whose link is one of the station's, and puts what it sends and tells into `out`. A word is what a
+    /// table draws from where a new list is asked for. It takes no memory.
+    pub fn event(&mut self, ev: StationEvent<'_>, word: u64, out: &mut StationOut)
+        requires { IsOfLinks ev (length self.old) }
+        ensures links { self.new ≡ (station_does ev.entry self.old word).links }
+        ensures out { out.new ≡ (station_does ev.entry self.old word).out }
+    {
+        match ev {
+            StationEvent::Up(link) => self.happens(link, Happening::LineUp, word, out),
+            StationEvent::Down(link) => self.happens(link, Happening::LineDown, word, out),
+            StationEvent::AdminOpen(link, proto) => {
+                self.happens(link, Happening::Opens(proto), word, out);
+            }
+            StationEvent::AdminClose(link, proto) => {
+                self.happens(link, Happening::Closes(proto), word, out);
+            }
+            StationEvent::Timeout(link, proto) => {
+                self.happens(link, Happening::TimesOut(proto), word, out);
+            }
+            StationEvent::Bytes(link, octets) => {
+                self.happens(link, Happening::Takes(octets), word, out);
+            }
+            StationEvent::Reset => {
+                out.clear();
+                self.reset();
+            }
+        }
+    }
+
+    /// How many links there are.
+    pub fn links(&self) -> u8
+        ensures count { result ≡ length self.now }
+        ensures most { result ≤ MOST_LINKS }
+    {
+        self.links.len() as u8
+    }
+
+    /// The link of that number, from 1 on.
+    pub fn link(&self, link: u8) -> &Link
+        requires { IsOfLink (length self.now) link }
+        ensures { slice_get self.now (link - 1) ≡ Some result.now }
+    {
+        &self.links[usize::from(link) - 1]
+    }
+
+    /// The octets that are kept of unfinished frames, escapes undone.
+    pub fn held(&self) -> usize
+        ensures { result ≡ held_in self.now }
+    {
+        let mut held = 0;
+        for i in 0..self.links.len() {
+            held += self.links[i].held();
+        }
+        held
+    }
+
+    /// Something happens to a link, and what follows from it.
+    fn happens(&mut self, number: u8, what: Happening<'_>, word: u64, out: &mut StationOut)
+        requires { IsOfLink (length self.old) number }
+        ensures links { self.new ≡ (on_link (happening_seen what.entry) number self.old word).links }
+        ensures out { out.new ≡ (on_link (happening_seen what.entry) number self.old word).out }
+    {
+        out.clear();
+        let link = &mut self.links[usize::from(number) - 1];
+        let used = happen(link, what, word, &mut self.told);
+        work(link, number, word, &self.told, &mut self.nets, out);
+        out.set_used(used);
+    }
+
+    /// Is as a new station.
+    fn reset(&mut self)
+        ensures { self.new ≡ map (λ k. link_ready k.tables) self.old }
+    {
+        for i in 0..self.links.len() {
+            let link = &mut self.links[i];
+            link.reset();
+            open_all(link, &CONTROLS, &mut self.told);
+        }
+    }
+}
+
+/// Puts a link behind others.
+fn put(links: &mut Vec<Link>, link: Link) -> Result<(), Memory>
+    ensures { OnOk result (links.new.items ≡ links.old.items ++ link ∷ []) }
+{
+    links.push(link).map_err(|_| Memory)
+}
+
+/// A link of an end of these settings, as a station begins with it.
+#[tactic(auto, using(crate::proofs::StationLemmas::ready_from, crate::proofs::StationLemmas::tables_from))]
+fn ready_link(
+    alloc: Global,
+    config: &EndConfig,
+    number: u8,
+    told: &mut LinkOut,
+) -> Result<Link, Memory>
+    requires least { 1 ≤ number }
+    requires most { number ≤ MOST_LINKS }
+    ensures ready { IfOk result (λ k. k ≡ link_ready k.tables) }
+    ensures settings { IfOk result (λ k. tables_seen k.tables ≡ settings_of number (end_seen config.now)) }
+{
+    let mut link = Link::new(alloc, config, number)?;
+    open_all(&mut link, &CONTROLS, told);
+    Ok(link)
+}
+
+/// Protocols of a link are to be opened.
+#[tactic(auto, unfolding(crate::specs::Station::opens_all))]
+fn open_all(link: &mut Link, protos: &[Proto], told: &mut LinkOut)
+    ensures { link.new ≡ opens_all protos.now link.old }
+{
+    for i in 0..protos.len() {
+        link.admin_open(protos[i], 0, told);
+    }
+}
