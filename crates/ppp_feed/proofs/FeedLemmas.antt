@@ -9,7 +9,7 @@ use Rattle.ppp_conf.specs.EndConfig.{EndSettings}
 use Rattle.ppp_frame.proofs.DeframerLemmas.{step_keeps}
 use Rattle.ppp_link.specs.Link.{Link, fed_with, read_by}
 use Rattle.ppp_feed.specs.EntryLine.{entry_line, entry_lines}
-use Rattle.ppp_feed.specs.Feed.{Fed, and_more, takes, line_does, word_of, text_from, feed_text, BeginsBy, IsFeed}
+use Rattle.ppp_feed.specs.Feed.{Written, and_more, takes, line_does, word_of, text_from, feed_text, BeginsBy, IsFeed}
 use Rattle.ppp_script.specs.FeedEvent.{IsWithin}
 use Rattle.ppp_script.specs.declared.feed_event.FeedEvent.{FeedEvent}
 use Rattle.ppp_station.specs.Station.{all_settings, on_link, stepped_by, station_does, with_link, IsOfLink}
@@ -124,11 +124,11 @@ takes-next l (x ∷ xs) links word is some =
     ap (and_more (entry_lines did.out.entries))
     (takes-enough (length xs) (length (drop did.out.used (x ∷ xs))) l (drop did.out.used (x ∷ xs)) did.links word (still-of (Takes (x ∷ xs)) l links word is) (omega (arith, used, left)) (omega arith))
 
-and_more-twice : (first second : List ℕ) (fed : Fed) → and_more first (and_more second fed) ≡ and_more (first ++ second) fed
+and_more-twice : (first second : List ℕ) (fed : Written) → and_more first (and_more second fed) ≡ and_more (first ++ second) fed
 and_more-twice first second fed = ap (λ text. record { links = fed.links; text = text }) (sym (append_assoc first second fed.text))
 
 -- what was written, and then what the octets left come to, is all: so it stays
-pub frames-next : (all : Fed) (written rest left : List ℕ) (l used word : ℕ) (now next : List Link) → IsOfLink (length now) l → 0 < length rest →
+pub frames-next : (all : Written) (written rest left : List ℕ) (l used word : ℕ) (now next : List Link) → IsOfLink (length now) l → 0 < length rest →
     next ≡ (on_link (Takes rest) l now word).links → used ≡ (on_link (Takes rest) l now word).out.used → left ≡ drop used rest →
     all ≡ and_more written (takes (length rest) l rest now word) →
     all ≡ and_more (written ++ entry_lines (on_link (Takes rest) l now word).out.entries) (takes (length left) l left next word)
@@ -136,11 +136,11 @@ frames-next all written rest left l used word now next is some next_is used_is l
     rw (left_is, used_is, next_is)
     (same ∙ ap (and_more written) (takes-next l rest now word is some) ∙ and_more-twice written (entry_lines (on_link (Takes rest) l now word).out.entries) _)
 
-pub frames-end : (all : Fed) (written rest : List ℕ) (l word : ℕ) (now : List Link) → length rest ≡ 0 →
+pub frames-end : (all : Written) (written rest : List ℕ) (l word : ℕ) (now : List Link) → length rest ≡ 0 →
     all ≡ and_more written (takes (length rest) l rest now word) → (now ≡ all.links) × (written ≡ all.text)
 unfolding takes
 frames-end all written [] l word now none same =
-    (sym (ap (λ (f : Fed). f.links) same), sym (ap (λ (f : Fed). f.text) same ∙ append-nil written))
+    (sym (ap (λ (f : Written). f.links) same), sym (ap (λ (f : Written). f.text) same ∙ append-nil written))
 frames-end all written (x ∷ xs) l word now none same = absurd (omega arith)
 
 -- ---- lines happen one behind the other

@@ -15,37 +15,40 @@ pub record BeginsBy (s : EndSettings) (links : List Link) : Type 0 where
   pub settings : settings_in links ≡ all_settings s.links 1 s
 
 -- a station after events, and the lines of what it sent and told
-pub record Fed : Type 0 where
+pub record Written : Type 0 where
   pub links : List Link
   pub text : List ℕ
 
-abbrev pub nothing : List Link → Fed
+abbrev pub nothing : List Link → Written
 nothing links = record { links = links; text = [] }
 
-abbrev pub fed_by : Stepped → Fed
-fed_by did = record { links = did.links; text = entry_lines did.out.entries }
+abbrev pub written_by : Stepped → Written
+written_by did = record { links = did.links; text = entry_lines did.out.entries }
 
-abbrev pub and_more : List ℕ → Fed → Fed
+abbrev pub and_more : List ℕ → Written → Written
 and_more text more = record { links = more.links; text = text ++ more.text }
 
 -- Octets come on a link: events until they are used up, each with those that the one before left, and at most that many.
-unfoldable pub takes : ℕ → ℕ → List ℕ → List Link → ℕ → Fed
+unfoldable pub takes : ℕ → ℕ → List ℕ → List Link → ℕ → Written
 takes most l [] links word = nothing links
 takes zero l (x ∷ xs) links word = nothing links
 takes (suc most) l (x ∷ xs) links word =
     let did = on_link (Takes (x ∷ xs)) l links word in
     and_more (entry_lines did.out.entries) (takes most l (drop did.out.used (x ∷ xs)) did.links word)
 
--- A line happens. Each event uses an octet at least, so there are no more of them than octets. BAP has no timer as long as
--- there are no bundles.
-unfoldable pub line_does : FeedEvent → List Link → ℕ → Fed
-line_does (event.Up l) links word = fed_by (on_link LineUp l links word)
-line_does (event.Down l) links word = fed_by (on_link LineDown l links word)
-line_does (event.AdminOpen l p) links word = fed_by (on_link (Opens p) l links word)
-line_does (event.AdminClose l p) links word = fed_by (on_link (Closes p) l links word)
-line_does (event.Timeout l p) links word = fed_by (on_link (TimesOut p) l links word)
+-- Each event uses an octet at least, so there are no more of them than octets.
+abbrev pub takes_all : ℕ → List ℕ → List Link → ℕ → Written
+takes_all l octets links word = takes (length octets) l octets links word
+
+-- A line happens. BAP has no timer as long as there are no bundles.
+unfoldable pub line_does : FeedEvent → List Link → ℕ → Written
+line_does (event.Up l) links word = written_by (on_link LineUp l links word)
+line_does (event.Down l) links word = written_by (on_link LineDown l links word)
+line_does (event.AdminOpen l p) links word = written_by (on_link (Opens p) l links word)
+line_does (event.AdminClose l p) links word = written_by (on_link (Closes p) l links word)
+line_does (event.Timeout l p) links word = written_by (on_link (TimesOut p) l links word)
 line_does (event.BapTimeout l) links word = nothing links
-line_does (event.Bytes l octets) links word = takes (length octets) l octets links word
+line_does (event.Bytes l octets) links word = takes_all l octets links word
 
 -- the word of the k-th line
 abbrev pub word_of : ℕ → ℕ
@@ -54,7 +57,7 @@ word_of k = 2 * k
 -- what lines write, of which the first is the k-th
 unfoldable pub text_from : ℕ → List Link → List FeedEvent → List ℕ
 text_from k links [] = []
-text_from k links (e ∷ es) = let fed = line_does e links (word_of k) in fed.text ++ text_from (k + 1) fed.links es
+text_from k links (e ∷ es) = let did = line_does e links (word_of k) in did.text ++ text_from (k + 1) did.links es
 
 -- what all lines write, of a station as it begins
 abbrev pub feed_text : List Link → List FeedEvent → List ℕ

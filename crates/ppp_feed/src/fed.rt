@@ -4,7 +4,8 @@ ghost use Rattle.std.specs.Prelude.{◌≡◌, ◌++◌, [], length, All, IfOk, 
 ghost use Rattle.std.specs.String.{string_bytes};
 ghost use Rattle.ppp_conf.specs.EndConfig.{end_seen};
 ghost use Rattle.ppp_feed.specs.EntryLine.{entry_line, entry_lines};
-ghost use Rattle.ppp_feed.specs.Feed.{line_does, takes, BeginsBy, IsFeed};
+ghost use Rattle.ppp_feed.specs.Fed.{Adds};
+ghost use Rattle.ppp_feed.specs.Feed.{line_does, takes_all, written_by, BeginsBy, IsFeed};
 ghost use Rattle.ppp_script.specs.FeedEvent.{IsWithin};
 ghost use Rattle.ppp_station.specs.Station.{on_link, station_does, IsOfLink, IsOfLinks};
 ghost use Rattle.ppp_station.specs.StationOut.{entry_seen};
@@ -60,9 +61,7 @@ impl Fed {
     #[tactic(auto, unfolding(crate::specs::Feed::line_does))]
     pub(crate) fn take(&mut self, event: &FeedEvent, word: u64) -> Result<(), Memory>
         requires { IsWithin (length self.old.station) event.now }
-        ensures links { OnOk result (self.new.station ≡ (line_does event.now self.old.station word).links) }
-        ensures text { OnOk result (string_bytes self.new.text
-            ≡ string_bytes self.old.text ++ (line_does event.now self.old.station word).text) }
+        ensures adds { OnOk result (Adds (line_does event.now self.old.station word) self.old self.new) }
         ensures count { OnOk result (length self.new.station ≡ length self.old.station) }
     {
         match event {
@@ -85,10 +84,8 @@ impl Fed {
     /// Octets come on a link, up to the end of each frame in turn.
     fn take_octets(&mut self, link: u8, octets: &[u8], word: u64) -> Result<(), Memory>
         requires { IsOfLink (length self.old.station) link }
-        ensures links { OnOk result (self.new.station
-            ≡ (takes (length octets.now) link octets.now self.old.station word).links) }
-        ensures text { OnOk result (string_bytes self.new.text
-            ≡ string_bytes self.old.text ++ (takes (length octets.now) link octets.now self.old.station word).text) }
+        ensures adds { OnOk result
+            (Adds (takes_all link octets.now self.old.station word) self.old self.new) }
         ensures count { OnOk result (length self.new.station ≡ length self.old.station) }
     {
         let mut rest = octets;
@@ -103,10 +100,10 @@ impl Fed {
     /// Octets come on a link, up to the end of the first frame or discard, and it is answered how many were used.
     fn take_frame(&mut self, link: u8, octets: &[u8], word: u64) -> Result<usize, Memory>
         requires { IsOfLink (length self.old.station) link }
-        ensures links { OnOk result (self.new.station ≡ (on_link (Takes octets.now) link self.old.station word).links) }
-        ensures text { OnOk result (string_bytes self.new.text ≡ string_bytes self.old.text
-            ++ entry_lines (on_link (Takes octets.now) link self.old.station word).out.entries) }
-        ensures used { IfOk result (λ used. used ≡ (on_link (Takes octets.now) link self.old.station word).out.used) }
+        ensures adds { OnOk result
+            (Adds (written_by (on_link (Takes octets.now) link self.old.station word)) self.old self.new) }
+        ensures used { IfOk result
+            (λ used. used ≡ (on_link (Takes octets.now) link self.old.station word).out.used) }
         ensures count { length self.new.station ≡ length self.old.station }
     {
         self.happens(StationEvent::Bytes(link, octets), word)?;
@@ -116,10 +113,10 @@ impl Fed {
     /// An event happens to the station, and the lines of its entries are written.
     fn happens(&mut self, event: StationEvent<'_>, word: u64) -> Result<(), Memory>
         requires { IsOfLinks event (length self.old.station) }
-        ensures links { OnOk result (self.new.station ≡ (station_does event.entry self.old.station word).links) }
-        ensures text { OnOk result (string_bytes self.new.text
-            ≡ string_bytes self.old.text ++ entry_lines (station_does event.entry self.old.station word).out.entries) }
-        ensures used { OnOk result (self.new.out.used ≡ (station_does event.entry self.old.station word).out.used) }
+        ensures adds { OnOk result
+            (Adds (written_by (station_does event.entry self.old.station word)) self.old self.new) }
+        ensures used { OnOk result
+            (self.new.out.used ≡ (station_does event.entry self.old.station word).out.used) }
         ensures count { length self.new.station ≡ length self.old.station }
     {
         self.station.event(event, word, &mut self.out);
@@ -146,7 +143,8 @@ fn write_all(text: &mut String, out: &StationOut) -> Result<(), Memory>
 
 /// Writes the line of an entry.
 fn write_entry(text: &mut String, entry: StationEntry<'_>) -> Result<(), Memory>
-    ensures { OnOk result (string_bytes text.new ≡ string_bytes text.old ++ entry_line (entry_seen entry.entry)) }
+    ensures { OnOk result
+        (string_bytes text.new ≡ string_bytes text.old ++ entry_line (entry_seen entry.entry)) }
 {
     let line = EntryLine { entry };
     write!(text, "{line}").map_err(|_| Memory)

@@ -23,16 +23,14 @@ frames-preserved c =
     let more = entry_lines (on_link (Takes c.frames.rest.now) c.args.link c.frames.self.station c.args.word).out.entries in record {
       count = c.in_ok-used.ensures.count ∙ c.frames.invariant.count;
       written = written ++ more;
-      text = c.in_ok-used.ensures.text ∙ ap (λ text. text ++ more) c.frames.invariant.text ∙ append_assoc (string_bytes c.args.self.now.text) written more;
+      text = c.in_ok-used.ensures.adds.text ∙ ap (λ text. text ++ more) c.frames.invariant.text ∙ append_assoc (string_bytes c.args.self.now.text) written more;
       same = frames-next _ written c.frames.rest.now c.split_at.result.1.now c.args.link c.in_ok-used.used c.args.word c.frames.self.station c.take_frame.new.self.station
-          u.link u.some c.in_ok-used.ensures.links c.in_ok-used.ensures.used c.split_at.ensures.back c.frames.invariant.same;
+          u.link u.some c.in_ok-used.ensures.adds.links c.in_ok-used.ensures.used c.split_at.ensures.back c.frames.invariant.same;
     }
 
-pub returns-clause-links : goal.returns-clause-links
-returns-clause-links c =
-    (frames-end _ c.frames.invariant.written c.frames.rest.now c.args.link c.args.word c.frames.self.station (eqb-true _ _ (sym c.frames-test.ensures)) c.frames.invariant.same).0
-
-pub returns-clause-text : goal.returns-clause-text
-returns-clause-text c =
-    let end = frames-end _ c.frames.invariant.written c.frames.rest.now c.args.link c.args.word c.frames.self.station (eqb-true _ _ (sym c.frames-test.ensures)) c.frames.invariant.same in
-    c.frames.invariant.text ∙ ap (λ text. string_bytes c.args.self.now.text ++ text) end.1
+pub returns-clause-adds : goal.returns-clause-adds
+returns-clause-adds c =
+    let end = frames-end _ c.frames.invariant.written c.frames.rest.now c.args.link c.args.word c.frames.self.station (eqb-true _ _ (sym c.frames-test.ensures)) c.frames.invariant.same in record {
+      links = end.0;
+      text = c.frames.invariant.text ∙ ap (λ text. string_bytes c.args.self.now.text ++ text) end.1;
+    }
