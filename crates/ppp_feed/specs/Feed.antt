@@ -40,14 +40,13 @@ takes (suc most) l (x ∷ xs) links word =
 abbrev pub takes_all : ℕ → List ℕ → List Link → ℕ → Written
 takes_all l octets links word = takes (length octets) l octets links word
 
--- A line happens. BAP has no timer as long as there are no bundles.
+-- a line happens
 unfoldable pub line_does : FeedEvent → List Link → ℕ → Written
 line_does (event.Up l) links word = written_by (on_link LineUp l links word)
 line_does (event.Down l) links word = written_by (on_link LineDown l links word)
 line_does (event.AdminOpen l p) links word = written_by (on_link (Opens p) l links word)
 line_does (event.AdminClose l p) links word = written_by (on_link (Closes p) l links word)
 line_does (event.Timeout l p) links word = written_by (on_link (TimesOut p) l links word)
-line_does (event.BapTimeout l) links word = nothing links
 line_does (event.Bytes l octets) links word = takes_all l octets links word
 
 -- the word of the k-th line

@@ -76,7 +76,6 @@ impl Fed {
             FeedEvent::Timeout(link, proto) => {
                 self.happens(StationEvent::Timeout(*link, *proto), word)
             }
-            FeedEvent::BapTimeout(_) => Ok(()),
             FeedEvent::Bytes(link, octets) => self.take_octets(*link, octets.octets(), word),
         }
     }

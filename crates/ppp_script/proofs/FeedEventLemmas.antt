@@ -1,7 +1,7 @@
 -- Facts on the lines of a feed: the text of an event reads as it, and what reads as an event is its text, but for the case
 -- of its hex digits.
-use Rattle.std.proofs.Common.{◌≡◌, ℕ, ◌^◌, ◌<◌, ◌≤◌, Bool, true, false, List, [], ◌∷◌, ◌++◌, map, refl, sym, ◌∙◌, ap, arith, rules}
-use Rattle.std.specs.Prelude.{Result, Ok, All, if◌then◌else◌, bytes_eq, codes}
+use Rattle.std.proofs.Common.{◌≡◌, ℕ, ◌^◌, ◌<◌, ◌≤◌, true, List, [], ◌∷◌, ◌++◌, map, refl, sym, ◌∙◌, ap, arith, rules}
+use Rattle.std.specs.Prelude.{Result, Ok, All, codes}
 use Rattle.std.specs.Char.{is_ascii_digit, to_ascii_lowercase}
 use Rattle.std.specs.Fmt.{decimal}
 use Rattle.std.specs.List.{AllByRecursion, list_all}
@@ -21,17 +21,15 @@ use Rattle.ppp_text.specs.Fields.{fields_of, line_with}
 use Rattle.ppp_text.proofs.FieldsLemmas.{line_with-fields_of, fields_of-line_with, spaceless}
 use Rattle.ppp_text.proofs.NumbersLemmas.{lacks-decimal}
 use Rattle.ppp_script.specs.declared.feed_event.FeedEvent.{FeedEvent}
-use Rattle.ppp_script.specs.declared.feed_event.FeedEvent.TheVariants.{Up, Down, AdminOpen, AdminClose, Timeout, BapTimeout, Bytes}
-use Rattle.ppp_script.specs.declared.feed_event.Timer.{Timer}
-use Rattle.ppp_script.specs.declared.feed_event.Timer.TheVariants.{Restart, Bap}
+use Rattle.ppp_script.specs.declared.feed_event.FeedEvent.TheVariants.{Up, Down, AdminOpen, AdminClose, Timeout, Bytes}
 use Rattle.ppp_script.specs.declared.field.TheConstants.{MOST_LINKS}
 use Rattle.ppp_script.specs.declared.line_why.LineWhy.{LineWhy}
-use Rattle.ppp_script.specs.FeedEvent.{IsWithin, feed_fields, feed_text, linked, timer_in, last_timer, last_octets, fires, plain_rows, bytes_row, feed_in, feed_of}
-use Rattle.ppp_script.specs.Field.{next_field, next_link, no_more, protocol_in, last_field, last_protocol, IsLink}
+use Rattle.ppp_script.specs.FeedEvent.{IsWithin, feed_fields, feed_text, linked, last_octets, plain_rows, bytes_row, feed_in, feed_of}
+use Rattle.ppp_script.specs.Field.{next_field, next_link, no_more, last_field, last_protocol, IsLink}
 use Rattle.ppp_script.specs.Octets.{octets_in, IsOctets}
 use Rattle.ppp_script.specs.Results.{◌>>=◌}
 use Rattle.ppp_script.specs.Row.{row, read_as}
-use Rattle.ppp_script.proofs.FieldLemmas.{Spaceless, inside, same_bytes, next_field-is, next_link-is, no_more-is, protocol_in-is, last_field-is, last_protocol-is, last_protocol-name, next_link-decimal, next_link-most, spaceless_protocol}
+use Rattle.ppp_script.proofs.FieldLemmas.{Spaceless, inside, next_field-is, next_link-is, no_more-is, last_field-is, last_protocol-is, last_protocol-name, next_link-decimal, next_link-most, spaceless_protocol}
 use Rattle.ppp_script.proofs.OctetsLemmas.{octets_in-lower, octets_in-digits, digits_spaceless}
 use Rattle.ppp_script.proofs.RowLemmas.{ReadsIts, read_by-is, row_is}
 
@@ -108,37 +106,6 @@ protocol_row : (links : ℕ) (word : List ℕ) (make : ℕ → Proto → FeedEve
     ReadsIts IsText (row word (read_as (linked links last_protocol) (λ p. make p.0 p.1)))
 protocol_row links word make same is_event = linked_row links word last_protocol make (λ protocol. proto_name protocol ∷ []) same protocol_lower is_event
 
--- a timer, as lines name it
-abbrev timer_name : Timer → List ℕ
-timer_name (Restart protocol) = proto_name protocol
-timer_name Bap = codes "bap"
-
-timer_in-is : (field : List ℕ) (timer : Timer) → timer_in field ≡ Ok timer → field ≡ timer_name timer
-timer_in-is field timer = by_test (bytes_eq field (codes "bap")) refl where
-  by_test : (t : Bool) → bytes_eq field (codes "bap") ≡ t → (if t then Ok Bap else protocol_in field >>= (λ p. Ok (Restart p))) ≡ Ok timer → field ≡ timer_name timer
-  by_test true test is = let same : Bap ≡ timer = cc in same_bytes field (codes "bap") test ∙ ap timer_name same
-  by_test false test is =
-      let p = inside (protocol_in field) (λ p. Ok (Restart p)) timer is in
-      let same : Restart p.0 ≡ timer = cc in
-      protocol_in-is field p.0 p.1.0 ∙ ap timer_name same
-
-timer_lower : (timer : Timer) → str_to_ascii_lowercase (timer_name timer) ≡ timer_name timer
-timer_lower (Restart protocol) = name_lower protocol
-timer_lower Bap = refl
-
-last_timer-lower : (fields : List (List ℕ)) (timer : Timer) → last_timer fields ≡ Ok timer → all_lower fields ≡ timer_name timer ∷ []
-unfolding last_timer
-last_timer-lower fields timer is =
-    let f = inside (last_field fields) timer_in timer is in
-    ap all_lower (last_field-is fields f.0 f.1.0) ∙ ap (λ x. str_to_ascii_lowercase x ∷ []) (timer_in-is f.0 timer f.1.1) ∙ ap (λ x. x ∷ []) (timer_lower timer)
-
-fires_text : (link : ℕ) (timer : Timer) → codes "timeout" ∷ decimal link ∷ timer_name timer ∷ [] ≡ feed_fields (fires link timer)
-fires_text link (Restart protocol) = refl
-fires_text link Bap = refl
-
-timer_row : (links : ℕ) → ReadsIts IsText (row (codes "timeout") (read_as (linked links last_timer) (λ p. fires p.0 p.1)))
-timer_row links = linked_row links (codes "timeout") last_timer fires (λ timer. timer_name timer ∷ []) refl last_timer-lower fires_text
-
 last_octets-lower : (fields : List (List ℕ)) (octets : List ℕ) → last_octets fields ≡ Ok octets → all_lower fields ≡ encode_lower octets ∷ []
 unfolding last_octets
 last_octets-lower fields octets is =
@@ -159,7 +126,7 @@ rows_are links = (
         protocol_row links (codes "open") AdminOpen refl (λ l p. refl),
         (
           protocol_row links (codes "close") AdminClose refl (λ l p. refl),
-          (timer_row links, tt),
+          (protocol_row links (codes "timeout") Timeout refl (λ l p. refl), tt),
         ),
       ),
     ),
@@ -191,19 +158,6 @@ linked-fields : {X : Type 0} (links link : ℕ) (last : List (List ℕ) → Resu
 unfolding linked
 linked-fields links link last more x few is reads = rw (next_link-decimal links link more few is, reads) refl
 
-last_timer-name : (protocol : Proto) → last_timer (proto_name protocol ∷ []) ≡ Ok (Restart protocol)
-unfolding last_timer
-last_timer-name Lcp = refl
-last_timer-name Ip = refl
-last_timer-name Ipv6 = refl
-last_timer-name Osi = refl
-last_timer-name Mpls = refl
-last_timer-name Bacp = refl
-
-last_timer-bap : last_timer (codes "bap" ∷ []) ≡ Ok Bap
-unfolding last_timer
-last_timer-bap = refl
-
 last_octets-digits : (octets : List ℕ) → IsOctets octets → last_octets (encode_lower octets ∷ []) ≡ Ok octets
 unfolding last_octets
 last_octets-digits octets is = octets_in-digits octets is
@@ -222,10 +176,7 @@ feed_of-text links (AdminClose link protocol) few is =
     (rw (linked-fields links link last_protocol (proto_name protocol ∷ []) protocol few is (last_protocol-name protocol)) refl)
 feed_of-text links (Timeout link protocol) few is =
     feed_of-fields links link (codes "timeout") (proto_name protocol ∷ []) (Timeout link protocol) few is (spaceless (codes "timeout") refl) (one_field (proto_name protocol) (spaceless_protocol protocol))
-    (rw (linked-fields links link last_timer (proto_name protocol ∷ []) (Restart protocol) few is (last_timer-name protocol)) refl)
-feed_of-text links (BapTimeout link) few is =
-    feed_of-fields links link (codes "timeout") (codes "bap" ∷ []) (BapTimeout link) few is (spaceless (codes "timeout") refl) (one_field (codes "bap") (spaceless (codes "bap") refl))
-    (rw (linked-fields links link last_timer (codes "bap" ∷ []) Bap few is last_timer-bap) refl)
+    (rw (linked-fields links link last_protocol (proto_name protocol ∷ []) protocol few is (last_protocol-name protocol)) refl)
 feed_of-text links (Bytes link octets) few is =
     feed_of-fields links link (codes "bytes") (encode_lower octets ∷ []) (Bytes link octets) few is.0 (spaceless (codes "bytes") refl) (one_field (encode_lower octets) (digits_spaceless octets is.1))
     (rw (linked-fields links link last_octets (encode_lower octets ∷ []) octets few is.0 (last_octets-digits octets is.1)) refl)

@@ -1,15 +1,13 @@
 -- The events of a feed: their bounds, their texts, and the lines that read as them.
-use Rattle.std.specs.Prelude.{ℕ, List, [], ◌∷◌, Result, Ok, bytes_eq, if◌then◌else◌, codes}
+use Rattle.std.specs.Prelude.{ℕ, List, [], ◌∷◌, Result, Ok, codes}
 use Rattle.std.specs.Fmt.{decimal}
 use Rattle.hex.specs.Hex.{encode_lower}
 use Rattle.ppp_packet.specs.Proto.{proto_name}
 use Rattle.ppp_text.specs.Fields.{fields_of, line_with}
 use Rattle.ppp_script.specs.declared.feed_event.FeedEvent.{FeedEvent}
-use Rattle.ppp_script.specs.declared.feed_event.FeedEvent.TheVariants.{Up, Down, AdminOpen, AdminClose, Timeout, BapTimeout, Bytes}
-use Rattle.ppp_script.specs.declared.feed_event.Timer.{Timer}
-use Rattle.ppp_script.specs.declared.feed_event.Timer.TheVariants.{Restart, Bap}
+use Rattle.ppp_script.specs.declared.feed_event.FeedEvent.TheVariants.{Up, Down, AdminOpen, AdminClose, Timeout, Bytes}
 use Rattle.ppp_script.specs.declared.line_why.LineWhy.{LineWhy}
-use Rattle.ppp_script.specs.Field.{next_field, next_link, no_more, protocol_in, last_field, last_protocol, IsLink}
+use Rattle.ppp_script.specs.Field.{next_field, next_link, no_more, last_field, last_protocol, IsLink}
 use Rattle.ppp_script.specs.Line.{Form}
 use Rattle.ppp_script.specs.Octets.{octets_in, IsOctets}
 use Rattle.ppp_script.specs.Results.{◌>>=◌}
@@ -22,7 +20,6 @@ IsWithin links (Down link) = IsLink links link
 IsWithin links (AdminOpen link protocol) = IsLink links link
 IsWithin links (AdminClose link protocol) = IsLink links link
 IsWithin links (Timeout link protocol) = IsLink links link
-IsWithin links (BapTimeout link) = IsLink links link
 IsWithin links (Bytes link octets) = IsLink links link × IsOctets octets
 
 -- the fields of an event's line
@@ -32,7 +29,6 @@ feed_fields (Down link) = codes "down" ∷ decimal link ∷ []
 feed_fields (AdminOpen link protocol) = codes "open" ∷ decimal link ∷ proto_name protocol ∷ []
 feed_fields (AdminClose link protocol) = codes "close" ∷ decimal link ∷ proto_name protocol ∷ []
 feed_fields (Timeout link protocol) = codes "timeout" ∷ decimal link ∷ proto_name protocol ∷ []
-feed_fields (BapTimeout link) = codes "timeout" ∷ decimal link ∷ codes "bap" ∷ []
 feed_fields (Bytes link octets) = codes "bytes" ∷ decimal link ∷ encode_lower octets ∷ []
 
 -- the line of an event, without an end; its hex digits are in lower case
@@ -46,22 +42,9 @@ linked links last fields = do
   x ← last first.1
   Ok (first.0, x)
 
--- `bap`, or `P`
-abbrev pub timer_in : List ℕ → Result Timer LineWhy
-timer_in field = if bytes_eq field (codes "bap") then Ok Bap else protocol_in field >>= (λ p. Ok (Restart p))
-
--- a timer, and no more
-unfoldable pub last_timer : List (List ℕ) → Result Timer LineWhy
-last_timer fields = last_field fields >>= timer_in
-
 -- `HEX`, and no more
 unfoldable pub last_octets : List (List ℕ) → Result (List ℕ) LineWhy
 last_octets fields = last_field fields >>= octets_in
-
--- the timer fires
-abbrev pub fires : ℕ → Timer → FeedEvent
-fires link (Restart protocol) = Timeout link protocol
-fires link Bap = BapTimeout link
 
 -- the rows by which a line is read, but for the one with octets
 abbrev pub plain_rows : ℕ → List (Row FeedEvent)
@@ -70,7 +53,7 @@ plain_rows links =
     ∷ row (codes "down") (read_as (linked links no_more) (λ p. Down p.0))
     ∷ row (codes "open") (read_as (linked links last_protocol) (λ p. AdminOpen p.0 p.1))
     ∷ row (codes "close") (read_as (linked links last_protocol) (λ p. AdminClose p.0 p.1))
-    ∷ row (codes "timeout") (read_as (linked links last_timer) (λ p. fires p.0 p.1))
+    ∷ row (codes "timeout") (read_as (linked links last_protocol) (λ p. Timeout p.0 p.1))
     ∷ []
 
 abbrev pub bytes_row : ℕ → Row FeedEvent

@@ -1,14 +1,14 @@
 //! The events of a feed, and the lines that read as them.
 
 ghost use Rattle.std.specs.Prelude.{◌≡◌, ◌-◌, ◌^◌, ◌<◌, IfOk, IfErr, All, Ok, Some, length};
-ghost use Rattle.ppp_script.specs.FeedEvent.{IsWithin, feed_text, linked, last_timer, fires, plain_rows, bytes_row, feed_of, feed_form};
+ghost use Rattle.ppp_script.specs.FeedEvent.{IsWithin, feed_text, linked, plain_rows, bytes_row, feed_of, feed_form};
 ghost use Rattle.ppp_script.specs.Field.{no_more, last_field, last_protocol, IsLink};
 ghost use Rattle.ppp_script.specs.Results.{Gives};
 ghost use Rattle.ppp_script.specs.Row.{read_by};
 ghost use Rattle.ppp_script.specs.Script.{events_of};
 ghost use Rattle.ppp_script.specs.ScriptFault.{IsRefusal};
 
-use crate::field::{last_field, last_protocol, next_field, next_link, no_more, protocol};
+use crate::field::{last_field, last_protocol, next_field, next_link, no_more};
 use crate::line::Line;
 use crate::line_why::LineWhy;
 use crate::octets::Octets;
@@ -32,19 +32,8 @@ pub enum FeedEvent {
     AdminClose(u8, Proto),
     /// `timeout L P`: the restart timer of a protocol on the link fires.
     Timeout(u8, Proto),
-    /// `timeout L bap`: the timer of the request that waits in the bundle of the link fires.
-    BapTimeout(u8),
     /// `bytes L HEX`: octets come on the link, 1 to 65,536.
     Bytes(u8, Octets),
-}
-
-/// A timer of a link.
-#[derive(Clone, Copy, Debug, PartialEq, Eq)]
-pub(crate) enum Timer {
-    /// The restart timer of a protocol.
-    Restart(Proto),
-    /// The timer of a request of BAP.
-    Bap,
 }
 
 impl fmt::Display for FeedEvent {
@@ -57,7 +46,6 @@ impl fmt::Display for FeedEvent {
             FeedEvent::AdminOpen(link, protocol) => write!(f, "open {link} {protocol}"),
             FeedEvent::AdminClose(link, protocol) => write!(f, "close {link} {protocol}"),
             FeedEvent::Timeout(link, protocol) => write!(f, "timeout {link} {protocol}"),
-            FeedEvent::BapTimeout(link) => write!(f, "timeout {link} bap"),
             FeedEvent::Bytes(link, octets) => write!(f, "bytes {link} {octets}"),
         }
     }
@@ -129,8 +117,8 @@ fn read_fields(word: &[u8], fields: &Fields<'_>, links: u8) -> Result<FeedEvent,
         let (link, protocol) = read_protocol(fields, links)?;
         Ok(FeedEvent::AdminClose(link, protocol))
     } else if word == b"timeout".as_slice() {
-        let (link, timer) = read_timer(fields, links)?;
-        Ok(fires(link, timer))
+        let (link, protocol) = read_protocol(fields, links)?;
+        Ok(FeedEvent::Timeout(link, protocol))
     } else {
         Err(LineWhy::Event)
     }
@@ -156,40 +144,6 @@ fn read_protocol(fields: &Fields<'_>, links: u8) -> Result<(u8, Proto), LineWhy>
     let (link, fields) = next_link(fields, links)?;
     let protocol = last_protocol(&fields)?;
     Ok((link, protocol))
-}
-
-/// Reads `L P` or `L bap`.
-#[tactic(auto, unfolding(crate::specs::FeedEvent::linked))]
-fn read_timer(fields: &Fields<'_>, links: u8) -> Result<(u8, Timer), LineWhy>
-    ensures value { result ≡ linked links last_timer fields.now }
-    ensures within { IfOk result (λ x. IsLink links x.0) }
-{
-    let (link, fields) = next_link(fields, links)?;
-    let timer = last_timer(&fields)?;
-    Ok((link, timer))
-}
-
-/// Reads `P` or `bap`, and no more.
-#[tactic(auto, unfolding(crate::specs::FeedEvent::last_timer))]
-fn last_timer(fields: &Fields<'_>) -> Result<Timer, LineWhy>
-    ensures { result ≡ last_timer fields.now }
-{
-    let field = last_field(fields)?;
-    if field == b"bap".as_slice() {
-        Ok(Timer::Bap)
-    } else {
-        Ok(Timer::Restart(protocol(field)?))
-    }
-}
-
-/// The event that a timer of a link fires.
-fn fires(link: u8, timer: Timer) -> FeedEvent
-    ensures { result ≡ fires link timer }
-{
-    match timer {
-        Timer::Restart(protocol) => FeedEvent::Timeout(link, protocol),
-        Timer::Bap => FeedEvent::BapTimeout(link),
-    }
 }
 
 /// Reads `L HEX`.
