@@ -5,6 +5,8 @@
 #[cfg(test)]
 mod automaton;
 #[cfg(test)]
+mod feed;
+#[cfg(test)]
 mod frame;
 #[cfg(test)]
 mod io;

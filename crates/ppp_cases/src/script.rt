@@ -13,7 +13,7 @@ static SCRIPTS: [(&str, u8, Option<(u32, LineWhy)>); 23] = [
     ("up a 2 x", 1, Some((1, LineWhy::Link))),
     ("up a 1 x", 1, Some((1, LineWhy::Event))),
     ("open a 2 foo", 1, Some((1, LineWhy::Link))),
-    ("open a 1 ip", 1, Some((1, LineWhy::Event))),
+    ("open a 1 bap", 1, Some((1, LineWhy::Event))),
     ("lose a 2 0", 1, Some((1, LineWhy::Link))),
     ("lose a 1 1024\nlose b 1 1025", 1, Some((2, LineWhy::Event))),
     ("settle 1000\nsettle 1001", 1, Some((2, LineWhy::Event))),
@@ -55,11 +55,11 @@ fn refuses_the_first_line_out_of_form(rt: HostRuntime) {
 fn reads_and_writes_each_form(rt: HostRuntime) -> Result<(), Fail> {
     let rows = [
         ("up a 1", Event::Up(End::A, 1)),
-        ("open a 1 lcp", Event::AdminOpen(End::A, 1, Proto::Lcp)),
+        ("open a 1 ipv6", Event::AdminOpen(End::A, 1, Proto::Ipv6)),
         ("deliver b 1", Event::Deliver(End::B, 1)),
         ("timeout a 1 lcp", Event::Timeout(End::A, 1, Proto::Lcp)),
         ("lose b 1 1024", Event::Lose(End::B, 1, 1024)),
-        ("close a 10 lcp", Event::AdminClose(End::A, 10, Proto::Lcp)),
+        ("close a 10 osi", Event::AdminClose(End::A, 10, Proto::Osi)),
         ("settle 20", Event::Settle(20)),
         ("down b 255", Event::Down(End::B, 255)),
         ("show", Event::Show),

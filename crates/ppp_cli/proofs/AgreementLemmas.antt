@@ -3,7 +3,7 @@ use Rattle.std.proofs.Common.{◌≡◌, List, ℕ, refl}
 use Rattle.std.specs.Prelude.{Option, Some, None, Result, Ok, Err}
 use Rattle.ppp_cli.specs.Agreement.{AgreesIfRead, AgreesIfReplayed, AgreesIfSet}
 use Rattle.ppp_cli.specs.declared.command.Command.{Command}
-use Rattle.ppp_cli.specs.declared.command.Command.TheVariants.{Replay, Show}
+use Rattle.ppp_cli.specs.declared.command.Command.TheVariants.{Replay, Feed, Show}
 use Rattle.ppp_conf.specs.Config.{Settings as Config, config_of}
 use Rattle.ppp_conf.specs.Refusal.{Refusal as ConfRefusal}
 use Rattle.ppp_conf.proofs.RangesLemmas.{config-in_range}
@@ -25,6 +25,7 @@ agrees_if_set text script (Err refused) is = tt
 
 pub agrees_if_replayed : (command : Option Command) (told : Option (List ℕ)) → AgreesIfReplayed command told
 agrees_if_replayed None told = tt
+agrees_if_replayed (Some Feed) told = tt
 agrees_if_replayed (Some Show) told = tt
 agrees_if_replayed (Some Replay) None = tt
 agrees_if_replayed (Some Replay) (Some text) = agrees_if_set (settings_in text) (script_in text) (config_of (settings_in text)) refl

@@ -1,7 +1,7 @@
 -- What is replied to a replay, part by part.
-use Rattle.std.proofs.Common.{◌≡◌, ℕ, List, refl, sym, ap, ◌∙◌}
+use Rattle.std.proofs.Common.{◌≡◌, ℕ, List, refl, sym, ap, ◌∙◌, subst}
 use Rattle.std.specs.Prelude.{Option, Some, None, Result, Ok, Err, IfOk}
-use Rattle.ppp_cli.specs.Reply.{Reply, reply_to_replay, reply_to_run, reply_to_settings, says, says_with}
+use Rattle.ppp_cli.specs.Reply.{Reply, reply_to_replay, reply_to_run, reply_to_settings, says, says_with, IsReplyToFed, IsReplyToFeed, Refuses}
 use Rattle.ppp_cli.specs.declared.status.Status.TheVariants.{Ok as Fine}
 use Rattle.ppp_conf.specs.Config.{Settings as Config', config_of, config_seen}
 use Rattle.ppp_conf.specs.Refusal.{Refusal as ConfRefusal}
@@ -22,6 +22,22 @@ unfolding reply_to_replay
 replay_reply text settings script c reply set_is script_is read is =
     is ∙ ap (λ (x : Result Config' ConfRefusal). reply_to_settings x script) (sym read)
     ∙ (λ i. reply_to_settings (config_of (set_is i)) (script_is i))
+
+-- settings that are refused
+pub refused_replay : (text settings script : List ℕ) (reply : Reply) → settings ≡ settings_in text → script ≡ script_in text → Refuses (config_of settings) reply → reply ≡ reply_to_replay text
+unfolding reply_to_replay
+refused_replay text settings script reply set_is script_is refuses =
+    by_read (config_of settings) reply refuses ∙ (λ i. reply_to_settings (config_of (set_is i)) (script_is i)) where
+      by_read : (read : Result Config' ConfRefusal) (reply : Reply) → Refuses read reply → reply ≡ reply_to_settings read script
+      by_read (Ok c) reply refuses = absurd refuses
+      by_read (Err refused) reply refuses = refuses
+
+pub refused_feed : (text settings script : List ℕ) (reply : Reply) → settings ≡ settings_in text → script ≡ script_in text → Refuses (config_of settings) reply → IsReplyToFeed text reply
+refused_feed text settings script reply set_is script_is refuses =
+    subst (λ s. IsReplyToFed (config_of s) (script_in text) reply) set_is (by_read (config_of settings) reply refuses) where
+      by_read : (read : Result Config' ConfRefusal) (reply : Reply) → Refuses read reply → IsReplyToFed read (script_in text) reply
+      by_read (Ok c) reply refuses = absurd refuses
+      by_read (Err refused) reply refuses = refuses
 
 -- what a replay came to is what the run replies
 pub run_reply : (s : Settings) (run : List Moment) (told : List ℕ) (refused : Option Refusal) → told ≡ report s (before_refusal run) → refused ≡ refusal run → (refused ≡ None → told ≡ report s run) →

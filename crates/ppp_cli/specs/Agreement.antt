@@ -1,7 +1,7 @@
 -- Two Opened ends agree in the run that an input is replayed as.
 use Rattle.std.specs.Prelude.{ℕ, List, Option, Some, None, Result, Ok, Err, ⊤}
 use Rattle.ppp_cli.specs.declared.command.Command.{Command}
-use Rattle.ppp_cli.specs.declared.command.Command.TheVariants.{Replay, Show}
+use Rattle.ppp_cli.specs.declared.command.Command.TheVariants.{Replay, Feed, Show}
 use Rattle.ppp_conf.specs.Config.{Settings as Config, config_of}
 use Rattle.ppp_conf.specs.Refusal.{Refusal as ConfRefusal}
 use Rattle.ppp_script.specs.Event.{event_form}
@@ -23,6 +23,7 @@ AgreesIfSet (Err refused) script = ⊤
 -- so it is of the run that an input is replayed as
 abbrev pub AgreesIfReplayed : Option Command → Option (List ℕ) → Type 0
 AgreesIfReplayed None told = ⊤
+AgreesIfReplayed (Some Feed) told = ⊤
 AgreesIfReplayed (Some Show) told = ⊤
 AgreesIfReplayed (Some Replay) None = ⊤
 AgreesIfReplayed (Some Replay) (Some text) = AgreesIfSet (config_of (settings_in text)) (script_in text)

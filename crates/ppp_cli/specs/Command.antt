@@ -4,12 +4,13 @@ use Rattle.std.specs.Str.{bytes_eq}
 use Rattle.std.specs.String.{string_bytes}
 use Rattle.std.specs.declared.string.String.{String}
 use Rattle.ppp_cli.specs.declared.command.Command.{Command}
-use Rattle.ppp_cli.specs.declared.command.Command.TheVariants.{Replay, Show}
+use Rattle.ppp_cli.specs.declared.command.Command.TheVariants.{Replay, Feed, Show}
 
 -- the command of a word
 abbrev pub command_named : List ℕ → Option Command
 command_named word =
     if bytes_eq word (codes "replay") then Some Replay
+    else if bytes_eq word (codes "feed") then Some Feed
     else if bytes_eq word (codes "show") then Some Show
     else None
 

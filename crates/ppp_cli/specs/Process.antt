@@ -8,7 +8,6 @@ use Rattle.ppp_io.specs.Account.{IsDrained}
 use Rattle.ppp_io.specs.Fault.{Rose}
 use Rattle.ppp_cli.specs.Answer.{Answers}
 use Rattle.ppp_cli.specs.Input.{TakesAtMost, TakesTooMany}
-use Rattle.ppp_cli.specs.Reply.{reply_to}
 use Rattle.ppp_cli.specs.Status.{code_of, IsOfText}
 use Rattle.ppp_cli.specs.declared.command.Command.{Command}
 use Rattle.ppp_cli.specs.declared.input.TheConstants.{MOST_OCTETS}
@@ -28,7 +27,7 @@ words_in (Err error) = []
 -- The status that a run may end with, as `ppp_run` has it: by what the source had left and the sink held, and by the
 -- counts of their faults, each before the run and after it.
 pub record MayEnd (command : Option Command) (left left' held held' : Option (List ℕ)) (read read' written written' : ℕ) (status : Status) : Type 0 where
-  pub reply : Answers (Rose read read') (reply_to command left) held held' status
+  pub reply : Answers (Rose read read') command left held held' status
   pub words : status ≡ BadWords → command ≡ None
   pub unread : command ≡ None → left' ≡ left
   pub read_rose : status ≡ ReadFault → Rose read read'

@@ -1,9 +1,9 @@
 -- What the program answers and writes where nothing fails.
-use Rattle.std.specs.Prelude.{ℕ, Bool, not, ◌&&◌, ◌==◌, nat_lt, if◌then◌else◌, List, ◌++◌, length, Option, Some, None, Result, Ok, Err, codes}
+use Rattle.std.specs.Prelude.{◌≡◌, ℕ, Bool, true, false, not, ◌&&◌, ◌==◌, nat_lt, if◌then◌else◌, List, ◌++◌, length, Option, Some, None, Result, Ok, Err, codes}
 use Rattle.std.specs.Fmt.{decimal}
 use Rattle.std.specs.List.{list_any}
 use Rattle.ppp_cli.specs.declared.command.Command.{Command}
-use Rattle.ppp_cli.specs.declared.command.Command.TheVariants.{Replay, Show}
+use Rattle.ppp_cli.specs.declared.command.Command.TheVariants.{Replay, Feed, Show}
 use Rattle.ppp_cli.specs.declared.input.TheConstants.{MOST_OCTETS}
 use Rattle.ppp_cli.specs.declared.reply.Reply.{Reply as Reply'}
 use Rattle.ppp_cli.specs.declared.status.Status.{Status}
@@ -12,10 +12,13 @@ use Rattle.ppp_conf.specs.Config.{Settings as Config, config_of}
 use Rattle.ppp_conf.specs.ConfWhy.{why_name as conf_why_name}
 use Rattle.ppp_conf.specs.EndConfig.{EndSettings}
 use Rattle.ppp_conf.specs.Refusal.{Refusal as ConfRefusal}
+use Rattle.ppp_feed.specs.Feed.{IsFeed}
 use Rattle.ppp_script.specs.Event.{event_form}
+use Rattle.ppp_script.specs.FeedEvent.{feed_form}
 use Rattle.ppp_script.specs.LineWhy.{why_name}
 use Rattle.ppp_script.specs.Script.{Refusal as Refusal', events_of}
 use Rattle.ppp_script.specs.declared.event.Event.{Event}
+use Rattle.ppp_script.specs.declared.feed_event.FeedEvent.{FeedEvent}
 use Rattle.ppp_script.specs.declared.line_why.LineWhy.{LineWhy}
 use Rattle.ppp_script.specs.declared.line_why.LineWhy.TheVariants.{Event as EventWhy}
 use Rattle.ppp_show.specs.Stream.{show_of}
@@ -102,17 +105,49 @@ abbrev pub reply_to_capture : Result (List ℕ) ℕ → Reply
 reply_to_capture (Ok octets) = says Fine octets
 reply_to_capture (Err line) = reply_to_line line EventWhy
 
-abbrev pub reply_to_command : Command → List ℕ → Reply
-reply_to_command Replay text = reply_to_replay text
-reply_to_command Show text = reply_to_capture (show_of text)
+-- settings are refused so
+abbrev pub Refuses : Result Config ConfRefusal → Reply → Type 0
+Refuses (Ok c) reply = ⊥
+Refuses (Err refused) reply = reply ≡ says BadConfig (bad_config refused)
+
+-- ---- feeds
+
+-- the settings that a feed is built for: no multilink at either end
+abbrev pub is_plain : Config → Bool
+is_plain c = (c.a.mrru == 0) && (c.b.mrru == 0)
+
+-- what a station of these settings writes of the lines, or the first line that is refused
+abbrev pub IsReplyToLines : EndSettings → Result (List FeedEvent) Refusal' → Reply → Type 0
+IsReplyToLines s (Ok events) reply = (reply.status ≡ Fine) × IsFeed s events reply.octets
+IsReplyToLines s (Err refused) reply = reply ≡ reply_to_line refused.line refused.why
+
+abbrev pub IsReplyIfBuilt : Bool → EndSettings → Result (List FeedEvent) Refusal' → Reply → Type 0
+IsReplyIfBuilt true s read reply = IsReplyToLines s read reply
+IsReplyIfBuilt false s read reply = reply ≡ says NotBuilt not_built_line
+
+-- the settings are looked at first, then the lines, which happen to end a
+abbrev pub IsReplyToFed : Result Config ConfRefusal → List ℕ → Reply → Type 0
+IsReplyToFed (Ok c) script reply = IsReplyIfBuilt (is_plain c) c.a (events_of feed_form c.links script) reply
+IsReplyToFed (Err refused) script reply = reply ≡ says BadConfig (bad_config refused)
+
+abbrev pub IsReplyToFeed : List ℕ → Reply → Type 0
+IsReplyToFeed text reply = IsReplyToFed (config_of (settings_in text)) (script_in text) reply
+
+-- ---- commands
+
+abbrev pub IsReplyToCommand : Command → List ℕ → Reply → Type 0
+IsReplyToCommand Replay text reply = reply ≡ reply_to_replay text
+IsReplyToCommand Feed text reply = IsReplyToFeed text reply
+IsReplyToCommand Show text reply = reply ≡ reply_to_capture (show_of text)
+
+abbrev pub IsReplyIfShort : Bool → Command → List ℕ → Reply → Type 0
+IsReplyIfShort true command text reply = reply ≡ says TooLong too_long_line
+IsReplyIfShort false command text reply = IsReplyToCommand command text reply
 
 -- the size is looked at first
-abbrev pub reply_to_text : Command → List ℕ → Reply
-reply_to_text command text =
-    if nat_lt MOST_OCTETS (length text) then says TooLong too_long_line else reply_to_command command text
+abbrev pub IsReplyToText : Command → List ℕ → Reply → Type 0
+IsReplyToText command text reply = IsReplyIfShort (nat_lt MOST_OCTETS (length text)) command text reply
 
--- The reply to words and to the input's octets: None where a source that doesn't tell them decides it.
-abbrev pub reply_to : Option Command → Option (List ℕ) → Option Reply
-reply_to None told = Some (says BadWords usage_line)
-reply_to (Some command) None = None
-reply_to (Some command) (Some text) = Some (reply_to_text command text)
+-- to words that are no command's
+abbrev pub IsUsage : Reply → Type 0
+IsUsage reply = reply ≡ says BadWords usage_line

@@ -8,6 +8,8 @@ ghost use Rattle.ppp_cli.specs.Command.{command_in};
 pub(crate) enum Command {
     /// `replay`: replays a script.
     Replay,
+    /// `feed`: feeds an end with lines.
+    Feed,
     /// `show`: shows a capture of hex lines.
     Show,
 }
@@ -19,6 +21,7 @@ impl Command {
     {
         match words {
             [word] if word.as_str() == "replay" => Some(Command::Replay),
+            [word] if word.as_str() == "feed" => Some(Command::Feed),
             [word] if word.as_str() == "show" => Some(Command::Show),
             _ => None,
         }

@@ -1,7 +1,7 @@
 //! What is replied to a text.
 
 ghost use Rattle.std.specs.Prelude.{◌≡◌, ◌≤◌, ℕ, List, length, IfOk, Ok, Result};
-ghost use Rattle.ppp_cli.specs.Reply.{is_built, is_single, not_built_line, reply_seen, reply_to_capture, reply_to_command, reply_to_events, reply_to_line, reply_to_replay, reply_to_settings, says, says_with};
+ghost use Rattle.ppp_cli.specs.Reply.{is_built, is_plain, is_single, not_built_line, reply_seen, reply_to_capture, reply_to_events, reply_to_line, reply_to_replay, reply_to_settings, says, says_with, IsReplyToCommand, IsReplyToFed, IsReplyToFeed, Refuses};
 ghost use Rattle.ppp_conf.specs.Config.{Settings, config_seen};
 ghost use Rattle.ppp_conf.specs.EndConfig.{end_seen};
 ghost use Rattle.ppp_conf.specs.Refusal.{IsRefusal, Refusal as ConfRefusal};
@@ -14,8 +14,9 @@ ghost use Rattle.ppp_cli.specs.declared.status.Status.TheVariants.{NotBuilt};
 use crate::command::Command;
 use crate::status::Status;
 use ppp_conf::{ConfFault, Config, EndConfig, read_config};
+use ppp_feed::feed;
 use ppp_io::Memory;
-use ppp_script::{Event, LineWhy, Script, ScriptFault, read_script};
+use ppp_script::{Event, LineWhy, Script, ScriptFault, read_feed, read_script};
 use ppp_show::{ShowFault, show_stream};
 use ppp_text::part_input;
 use ppp_world::{Refusal, replay};
@@ -31,11 +32,12 @@ pub(crate) struct Reply {
 /// Replies to the text of a command's input that isn't too long.
 pub(crate) fn reply_to_text(alloc: Global, command: Command, text: &[u8]) -> Result<Reply, Memory>
     requires { length text.now ≤ MOST_OCTETS }
-    ensures reply { IfOk result (λ reply. reply_seen reply ≡ reply_to_command command text.now) }
+    ensures reply { IfOk result (λ reply. IsReplyToCommand command text.now (reply_seen reply)) }
     ensures of_text { IfOk result (λ reply. IsOfText reply.status) }
 {
     match command {
         Command::Replay => reply_to_replay(alloc, text),
+        Command::Feed => reply_to_feed(alloc, text),
         Command::Show => reply_to_capture(alloc, text),
     }
 }
@@ -101,10 +103,50 @@ fn is_single(end: &EndConfig) -> bool
     end.mrru == 0 && !end.protocols.contains(&true)
 }
 
+/// Parts the input at the line `---`, reads the settings before it, and feeds end a with the lines behind it.
+fn reply_to_feed(alloc: Global, text: &[u8]) -> Result<Reply, Memory>
+    requires { length text.now ≤ MOST_OCTETS }
+    ensures reply { IfOk result (λ reply. IsReplyToFeed text.now (reply_seen reply)) }
+    ensures of_text { IfOk result (λ reply. IsOfText reply.status) }
+{
+    let parts = part_input(text);
+    match read_config(alloc, parts.settings) {
+        Ok(config) => reply_to_lines(alloc, &config, parts.script),
+        Err(fault) => refuse_settings(alloc, &fault),
+    }
+}
+
+/// Feeds end a of these settings with lines, if they are built.
+fn reply_to_lines(alloc: Global, config: &Config, script: &[u8]) -> Result<Reply, Memory>
+    requires { length script.now ≤ MOST_OCTETS }
+    ensures reply { IfOk result
+        (λ reply. IsReplyToFed (Ok (config_seen config.now)) script.now (reply_seen reply)) }
+    ensures of_text { IfOk result (λ reply. IsOfText reply.status) }
+{
+    if !is_plain(config) {
+        return refuse_unbuilt(alloc);
+    }
+    match read_feed(alloc, script, config.links) {
+        Ok(script) => Ok(Reply {
+            status: Status::Ok,
+            octets: feed(alloc, &config.a, &script)?,
+        }),
+        Err(ScriptFault::Refused { line, why }) => refuse_line(alloc, line, why),
+        Err(ScriptFault::Memory) => Err(Memory),
+    }
+}
+
+/// Whether a feed is built for these settings: there is no multilink at either end.
+fn is_plain(config: &Config) -> bool
+    ensures { result ≡ is_plain (config_seen config.now) }
+{
+    config.a.mrru == 0 && config.b.mrru == 0
+}
+
 /// Refuses settings, with the line that says which key and why.
 fn refuse_settings(alloc: Global, fault: &ConfFault) -> Result<Reply, Memory>
-    ensures reply { (read : Result Settings ConfRefusal) → IsRefusal read fault.now → (script : List ℕ)
-        → IfOk result (λ reply. reply_seen reply ≡ reply_to_settings read script) }
+    ensures reply { (read : Result Settings ConfRefusal) → IsRefusal read fault.now →
+        IfOk result (λ reply. Refuses read (reply_seen reply)) }
     ensures of_text { IfOk result (λ reply. IsOfText reply.status) }
 {
     if let ConfFault::Memory = fault {

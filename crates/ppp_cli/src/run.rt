@@ -7,7 +7,6 @@ ghost use Rattle.ppp_cli.specs.Agreement.{AgreesIfReplayed};
 ghost use Rattle.ppp_cli.specs.Answer.{Answers, SaysIfReadFault};
 ghost use Rattle.ppp_cli.specs.Command.{command_in};
 ghost use Rattle.ppp_cli.specs.Input.{TakesAtMost, TakesTooMany};
-ghost use Rattle.ppp_cli.specs.Reply.{reply_to};
 ghost use Rattle.ppp_cli.specs.Status.{IsOfText};
 ghost use Rattle.ppp_cli.specs.declared.input.TheConstants.{MOST_OCTETS};
 
@@ -33,8 +32,7 @@ pub fn ppp_run<S: Source, K: Sink>(
 ) -> Status
     // The status and the octets are those of the reply to exactly what was read, but for faults and want of memory.
     ensures reply { Answers (Rose (S.faults input.old) (S.faults input.new))
-        (reply_to (command_in args.now) (S.left input.old))
-        (K.held output.old) (K.held output.new) result }
+        (command_in args.now) (S.left input.old) (K.held output.old) (K.held output.new) result }
 
     // In every state of the run that is replayed two Opened ends agree.
     ensures agreed { AgreesIfReplayed (command_in args.now) (S.left input.old) }
@@ -62,8 +60,7 @@ fn run_command<S: Source, K: Sink>(
     output: &mut K,
 ) -> Status
     ensures reply { Answers (Rose (S.faults input.old) (S.faults input.new))
-        (reply_to (Some command) (S.left input.old))
-        (K.held output.old) (K.held output.new) result }
+        (Some command) (S.left input.old) (K.held output.old) (K.held output.new) result }
     ensures words { result ≢ Status.BadWords }
     ensures read { result ≡ Status.ReadFault → Rose (S.faults input.old) (S.faults input.new) }
     ensures read_line { SaysIfReadFault result (K.held output.old) (K.held output.new) }

@@ -1,10 +1,9 @@
 //! A run of the program over devices that never fail.
 
-ghost use Rattle.std.specs.Prelude.{◌≢◌, Some};
+ghost use Rattle.std.specs.Prelude.{◌≢◌};
 ghost use Rattle.ppp_io.specs.SureSink.{held_if_told};
 ghost use Rattle.ppp_cli.specs.Answer.{RepliesWhole};
 ghost use Rattle.ppp_cli.specs.Command.{command_in};
-ghost use Rattle.ppp_cli.specs.Reply.{reply_to};
 
 use crate::run::ppp_run;
 use crate::status::Status;
@@ -21,7 +20,7 @@ pub fn run_surely(
 ) -> Status
     ensures read { result ≢ Status.ReadFault }
     ensures write { result ≢ Status.WriteFault }
-    ensures whole { RepliesWhole (reply_to (command_in args.now) (Some input.old.left)) result
+    ensures whole { RepliesWhole (command_in args.now) input.old.left result
         (held_if_told output.old) (held_if_told output.new) }
 {
     ppp_run(alloc, args, input, output)

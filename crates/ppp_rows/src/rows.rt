@@ -7,6 +7,8 @@ use std::process::Abort;
 
 const REPLAY: &[&str] = &["replay"];
 
+const FEED: &[&str] = &["feed"];
+
 const SHOW: &[&str] = &["show"];
 
 const USAGE: &str =
@@ -154,7 +156,7 @@ fn replays_what_was_worked_out(rt: HostRuntime) {
 #[test]
 fn replies_to_words_and_settings(rt: HostRuntime) {
     // words, an input, the status, and the output
-    let rows: [(&[&str], &str, Status, &str); 11] = [
+    let rows: [(&[&str], &str, Status, &str); 12] = [
         // both ends open
         (
             REPLAY,
@@ -186,11 +188,100 @@ fn replies_to_words_and_settings(rt: HostRuntime) {
         (&["replay", "replay"], FIRST_RUN, Status::BadWords, USAGE),
         (&["replay", "x"], FIRST_RUN, Status::BadWords, USAGE),
         (&["show", "x"], "", Status::BadWords, USAGE),
+        (&["feed", "x"], FIRST_RUN, Status::BadWords, USAGE),
     ];
     for (words, input, status, output) in rows {
         let (answered, written) = run_over(rt.alloc(), &rt, words, input.as_bytes());
         assert_eq!(rt; answered, status, "at {input:?}");
         assert_eq!(rt; written.as_slice(), output.as_bytes(), "at {input:?}");
+    }
+}
+
+#[test]
+fn feeds_what_was_worked_out(rt: HostRuntime) {
+    let single = "version = 1\n---\n";
+    // LCP without options, and IPCP
+    let network = "version = 1\n[a]\nmagic = false\nprotocols = [\"ip\"]\nip = \"10.0.0.1\"\n---\n";
+    // what stands before the lines, the lines, the status, and the output
+    let rows: [(&str, &str, Status, &str); 13] = [
+        // a packet with an unknown code, before LCP is opened
+        (
+            single,
+            "up 1\nbytes 1 7eff7d23c0217d2c7d277d207d2487e87e\n",
+            Status::Ok,
+            "push 1 7eff7d23c0217d277d217d207d287d2c7d277d207d24769c7e\n",
+        ),
+        // LCP and IPCP come up, two datagrams come, the second without octets, and LCP is closed. A line has two frames, or
+        // ends within one
+        (
+            network,
+            "up 1\nopen 1 lcp\n\
+             bytes 1 7EFF7D23C0217D227D217D207D247D3C907E7eff7d23c0217d217d277d207d247d28637e\n\
+             bytes 1 7eff7d2380217d227d21\nbytes 1 7d207d2a7d237d267d2a7d207d207d215d917e\n\
+             bytes 1 7eff7d2380217d217d227d207d2a7d237d267d2a7d207d207d22a87d217e\n\
+             bytes 1 7eff7d237d2021457d2050767e7eff7d237d2021e3e67e\n\
+             close 1 lcp\nbytes 1 7eff7d23c0217d267d217d207d24f0e27e\n",
+            Status::Ok,
+            "push 1 7eff7d23c0217d217d217d207d24d1b57e\n\
+             push 1 7eff7d23c0217d227d277d207d24c5467e\n\
+             push 1 7eff7d2380217d217d217d207d2a7d237d267d2a7d207d207d2134e57e\n\
+             push 1 7eff7d2380217d227d227d207d2a7d237d267d2a7d207d207d22c1757e\n\
+             got - ip 4500\n\
+             got - ip \n\
+             push 1 7eff7d23c0217d257d217d207d243dc77e\n\
+             hang 1\n",
+        ),
+        // nothing comes of a protocol that isn't configured, of a timer that isn't on, and of a datagram on a line that is down
+        (
+            single,
+            "open 1 ip\ntimeout 1 lcp\nbytes 1 7eff7d237d2021457d2050767e\n",
+            Status::Ok,
+            "",
+        ),
+        // no lines
+        (single, "", Status::Ok, ""),
+        ("version = 1", "", Status::Ok, ""),
+        // lines that are refused
+        (single, "up a 1\n", Status::BadLine(1), "line 1 Event\n"),
+        (single, "up 1\nup 2\n", Status::BadLine(2), "line 2 Link\n"),
+        (
+            single,
+            "timeout 1 bap\n",
+            Status::BadLine(1),
+            "line 1 Event\n",
+        ),
+        (
+            single,
+            "up 1\nbytes 1 7e7\n",
+            Status::BadLine(2),
+            "line 2 Event\n",
+        ),
+        // settings that are refused, and those that aren't built
+        ("", "", Status::BadConfig, "config version Missing\n"),
+        (
+            "version = 1\na.ip = 1\n---\n",
+            "fly\n",
+            Status::BadConfig,
+            "config a.ip Wrong\n",
+        ),
+        (
+            "version = 1\na.mrru = 1500\n---\n",
+            "fly\n",
+            Status::NotBuilt,
+            "not built\n",
+        ),
+        (
+            "version = 1\nb.mrru = 1500\n---\n",
+            "up 1\n",
+            Status::NotBuilt,
+            "not built\n",
+        ),
+    ];
+    for (settings, lines, status, output) in rows {
+        let input = repeating(rt.alloc(), &rt, settings, "", 0, lines);
+        let (answered, written) = run_over(rt.alloc(), &rt, FEED, input.as_bytes());
+        assert_eq!(rt; answered, status, "at {lines:?}");
+        assert_eq!(rt; written.as_slice(), output.as_bytes(), "at {lines:?}");
     }
 }
 

@@ -1,2 +1,6 @@
 pub mod EventLemmas
+pub mod FeedEventLemmas
+pub mod FieldLemmas
+pub mod OctetsLemmas
+pub mod RowLemmas
 pub mod ScriptLemmas

@@ -1,7 +1,6 @@
 -- The events of a replay: their bounds, their texts, and the lines that read as them.
-use Rattle.std.specs.Prelude.{sum_by, ℕ, ◌≤◌, ⊤, if◌then◌else◌, List, [], ◌∷◌, Result, Ok, Err, bytes_eq, codes}
+use Rattle.std.specs.Prelude.{sum_by, ℕ, ◌≤◌, ⊤, List, [], ◌∷◌, Result, Ok, codes}
 use Rattle.std.specs.Fmt.{decimal}
-use Rattle.ppp_packet.specs.declared.proto.Proto.{Proto}
 use Rattle.ppp_packet.specs.Proto.{proto_name}
 use Rattle.ppp_text.specs.Fields.{fields_of, line_with}
 use Rattle.ppp_script.specs.declared.end.End.{End}
@@ -9,11 +8,11 @@ use Rattle.ppp_script.specs.declared.event.Event.{Event}
 use Rattle.ppp_script.specs.declared.event.Event.TheVariants.{Up, Down, AdminOpen, AdminClose, Timeout, Deliver, Lose, Settle, Show}
 use Rattle.ppp_script.specs.declared.event.TheConstants.{MOST_PLACE, MOST_SETTLED}
 use Rattle.ppp_script.specs.declared.line_why.LineWhy.{LineWhy}
-use Rattle.ppp_script.specs.declared.line_why.LineWhy.TheVariants as why
 use Rattle.ppp_script.specs.End.{end_name}
-use Rattle.ppp_script.specs.Field.{next_field, no_more, number_field, end_in, link_in, protocol_in, IsLink, IsNamed}
+use Rattle.ppp_script.specs.Field.{next_field, no_more, number_field, end_in, link_in, last_protocol, IsLink}
 use Rattle.ppp_script.specs.Line.{Form}
 use Rattle.ppp_script.specs.Results.{◌>>=◌}
+use Rattle.ppp_script.specs.Row.{Row, row, read_as, read_by}
 
 -- the steps of an event: one, but for those of `settle N`
 abbrev pub steps_in : Event → ℕ
@@ -24,13 +23,13 @@ steps_in event = 1
 abbrev pub steps_in_all : List Event → ℕ
 steps_in_all events = sum_by steps_in events
 
--- an event's numbers are within their bounds, where so many links are configured, and its protocol is one that lines name
+-- an event's numbers are within their bounds, where so many links are configured
 abbrev pub IsWithin : ℕ → Event → Type 0
 IsWithin links (Up end link) = IsLink links link
 IsWithin links (Down end link) = IsLink links link
-IsWithin links (AdminOpen end link protocol) = IsLink links link × IsNamed protocol
-IsWithin links (AdminClose end link protocol) = IsLink links link × IsNamed protocol
-IsWithin links (Timeout end link protocol) = IsLink links link × IsNamed protocol
+IsWithin links (AdminOpen end link protocol) = IsLink links link
+IsWithin links (AdminClose end link protocol) = IsLink links link
+IsWithin links (Timeout end link protocol) = IsLink links link
 IsWithin links (Deliver end link) = IsLink links link
 IsWithin links (Lose end link place) = IsLink links link × ((1 ≤ place) × (place ≤ MOST_PLACE))
 IsWithin links (Settle count) = (1 ≤ count) × (count ≤ MOST_SETTLED)
@@ -73,14 +72,6 @@ placed links last fields = do
   x ← last place.2
   Ok (place.0, place.1, x)
 
--- `P`, and no more
-unfoldable pub last_protocol : List (List ℕ) → Result Proto LineWhy
-last_protocol fields = do
-  first ← next_field fields
-  protocol ← protocol_in first.0
-  nothing ← no_more first.1
-  Ok protocol
-
 -- a number within these bounds, and no more
 unfoldable pub last_number : ℕ → ℕ → List (List ℕ) → Result ℕ LineWhy
 last_number least most fields = do
@@ -89,19 +80,8 @@ last_number least most fields = do
   nothing ← no_more first.1
   Ok number
 
--- a first field, and how those behind it are read
-pub record Row : Type 0 where
-  pub word : List ℕ
-  pub reads : List (List ℕ) → Result Event LineWhy
-
-abbrev pub row : List ℕ → (List (List ℕ) → Result Event LineWhy) → Row
-row word reads = record { word = word; reads = reads }
-
--- what one of these readers reads, made an event
-abbrev pub read_as : {X : Type 0} → (List (List ℕ) → Result X LineWhy) → (X → Event) → List (List ℕ) → Result Event LineWhy
-read_as reads make fields = reads fields >>= (λ x. Ok (make x))
-
-abbrev pub rows : ℕ → List Row
+-- the rows by which a line is read
+abbrev pub rows : ℕ → List (Row Event)
 rows links =
     row (codes "up") (read_as (placed links no_more) (λ p. Up p.0 p.1))
     ∷ row (codes "down") (read_as (placed links no_more) (λ p. Down p.0 p.1))
@@ -114,15 +94,9 @@ rows links =
     ∷ row (codes "show") (read_as no_more (λ nothing. Show))
     ∷ []
 
--- the event by the first of these rows that has this word
-abbrev pub event_by : List Row → List ℕ → List (List ℕ) → Result Event LineWhy
-event_by [] word fields = Err why.Event
-event_by (row ∷ rows) word fields =
-    if bytes_eq word row.word then row.reads fields else event_by rows word fields
-
 -- the event of a line that has this first field, and these behind it
 unfoldable pub event_in : ℕ → List ℕ → List (List ℕ) → Result Event LineWhy
-event_in links word fields = event_by (rows links) word fields
+event_in links word fields = read_by (rows links) word fields
 
 -- the event of a line
 unfoldable pub event_of : ℕ → List ℕ → Result Event LineWhy

@@ -1,8 +1,11 @@
 pub mod End
 pub mod Event
+pub mod FeedEvent
 pub mod Field
 pub mod Line
 pub mod LineWhy
+pub mod Octets
 pub mod Results
+pub mod Row
 pub mod Script
 pub mod ScriptFault

@@ -2,12 +2,12 @@
 
 ghost use Rattle.std.specs.Prelude.{◌≡◌, ◌≤◌, IfOk, Some};
 ghost use Rattle.ppp_script.specs.declared.event.TheConstants.{MOST_PLACE, MOST_SETTLED};
-ghost use Rattle.ppp_script.specs.Event.{steps_in, IsWithin, event_text, place_in, placed, last_protocol, last_number, event_in, event_of, event_form};
-ghost use Rattle.ppp_script.specs.Field.{no_more, IsLink, IsNamed};
+ghost use Rattle.ppp_script.specs.Event.{steps_in, IsWithin, event_text, place_in, placed, last_number, event_in, event_of, event_form};
+ghost use Rattle.ppp_script.specs.Field.{no_more, last_protocol, IsLink};
 ghost use Rattle.ppp_script.specs.Results.{Gives};
 
 use crate::end::End;
-use crate::field::{end, link, next_field, no_more, number_field, protocol};
+use crate::field::{end, last_protocol, link, next_field, no_more, number_field};
 use crate::line::Line;
 use crate::line_why::LineWhy;
 use ppp_packet::Proto;
@@ -115,7 +115,7 @@ fn read_link(fields: &Fields<'_>, links: u8) -> Result<(End, u8), LineWhy>
 #[tactic(auto, unfolding(crate::specs::Event::placed))]
 fn read_protocol(fields: &Fields<'_>, links: u8) -> Result<(End, u8, Proto), LineWhy>
     ensures value { result ≡ placed links last_protocol fields.now }
-    ensures within { IfOk result (λ x. IsLink links x.1 × IsNamed x.2) }
+    ensures within { IfOk result (λ x. IsLink links x.1) }
 {
     let (end, link, fields) = place(fields, links)?;
     let protocol = last_protocol(&fields)?;
@@ -131,18 +131,6 @@ fn read_lose(fields: &Fields<'_>, links: u8) -> Result<(End, u8, u16), LineWhy>
     let (end, link, fields) = place(fields, links)?;
     let place = last_number(&fields, 1, MOST_PLACE)?;
     Ok((end, link, place))
-}
-
-/// Reads `P`, and no more.
-#[tactic(auto, unfolding(crate::specs::Event::last_protocol))]
-fn last_protocol(fields: &Fields<'_>) -> Result<Proto, LineWhy>
-    ensures value { result ≡ last_protocol fields.now }
-    ensures named { IfOk result IsNamed }
-{
-    let (first, fields) = next_field(fields)?;
-    let protocol = protocol(first)?;
-    no_more(&fields)?;
-    Ok(protocol)
 }
 
 /// Reads a number within these bounds, and no more.

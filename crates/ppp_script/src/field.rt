@@ -1,7 +1,7 @@
 //! The fields of an event line, read one after the other.
 
 ghost use Rattle.std.specs.Prelude.{◌≡◌, ◌≤◌, IfOk};
-ghost use Rattle.ppp_script.specs.Field.{next_field, no_more, number_field, end_in, link_in, protocol_in, IsLink, IsNamed};
+ghost use Rattle.ppp_script.specs.Field.{next_field, no_more, number_field, end_in, link_in, next_link, protocol_in, last_protocol, last_field, IsLink};
 ghost use Rattle.ppp_script.specs.Results.{Gives};
 
 use crate::end::End;
@@ -65,14 +65,54 @@ pub(crate) fn link(field: &[u8], links: u8) -> Result<u8, LineWhy>
     }
 }
 
-/// A control protocol.
+/// The link that the first field is, of which so many are configured, and the fields behind it.
+#[tactic(auto, unfolding(crate::specs::Field::next_link))]
+pub(crate) fn next_link<'a>(fields: &Fields<'a>, links: u8) -> Result<(u8, Fields<'a>), LineWhy>
+    ensures value { result ≡ next_link links fields.now }
+    ensures within { IfOk result (λ x. IsLink links x.0) }
+{
+    let (first, fields) = next_field(fields)?;
+    let link = link(first, links)?;
+    Ok((link, fields))
+}
+
+/// A control protocol, by its name.
 pub(crate) fn protocol(field: &[u8]) -> Result<Proto, LineWhy>
-    ensures value { result ≡ protocol_in field.now }
-    ensures named { IfOk result IsNamed }
+    ensures { result ≡ protocol_in field.now }
 {
     if field == b"lcp".as_slice() {
         Ok(Proto::Lcp)
+    } else if field == b"ip".as_slice() {
+        Ok(Proto::Ip)
+    } else if field == b"ipv6".as_slice() {
+        Ok(Proto::Ipv6)
+    } else if field == b"osi".as_slice() {
+        Ok(Proto::Osi)
+    } else if field == b"mpls".as_slice() {
+        Ok(Proto::Mpls)
+    } else if field == b"bacp".as_slice() {
+        Ok(Proto::Bacp)
     } else {
         Err(LineWhy::Event)
     }
+}
+
+/// Reads `P`, and no more.
+#[tactic(auto, unfolding(crate::specs::Field::last_protocol))]
+pub(crate) fn last_protocol(fields: &Fields<'_>) -> Result<Proto, LineWhy>
+    ensures { result ≡ last_protocol fields.now }
+{
+    let (first, fields) = next_field(fields)?;
+    let protocol = protocol(first)?;
+    no_more(&fields)?;
+    Ok(protocol)
+}
+
+/// The one field that is left.
+pub(crate) fn last_field<'a>(fields: &Fields<'a>) -> Result<&'a [u8], LineWhy>
+    ensures { Gives (λ x. x.now) result (last_field fields.now) }
+{
+    let (first, fields) = next_field(fields)?;
+    no_more(&fields)?;
+    Ok(first)
 }

@@ -29,7 +29,7 @@ returns-in-Err g c = (
   Memory,
   c.exit_code-in-Err.ensures,
   record {
-    reply = answers_memory _ _ _;
+    reply = answers_memory _ _ _ _;
     words = λ e. cc;
     unread = λ e. refl;
     read_rose = λ e. cc;

@@ -1,5 +1,6 @@
 use Rattle.ppp_cli.specs.Reply.{reply_seen}
-use Rattle.ppp_cli.proofs.ReplyLemmas.{if_ok_map, replay_reply}
+use Rattle.ppp_conf.specs.Config.{config_of}
+use Rattle.ppp_cli.proofs.ReplyLemmas.{if_ok_map, refused_replay, replay_reply}
 use Rattle.ppp_cli.proofs.reply.reply_to_replay.Goals as goal
 
 pub returns-in-Ok-clause-reply : goal.returns-in-Ok-clause-reply
@@ -8,3 +9,9 @@ returns-in-Ok-clause-reply c =
     if_ok_map c.reply_to_config.result c.reply_to_config.ensures.reply (λ reply is.
     replay_reply c.args.text.now parts.result.settings.now parts.result.script.now c.in-Ok.config (reply_seen reply)
     parts.ensures.settings parts.ensures.script c.in-Ok.ensures.ok is)
+
+pub returns-in-Err-clause-reply : goal.returns-in-Err-clause-reply
+returns-in-Err-clause-reply c =
+    let parts = c.part_input-parts in
+    if_ok_map c.refuse_settings.result (c.refuse_settings.ensures.reply (config_of parts.result.settings.now) c.in-Err.ensures.err) (λ reply is.
+    refused_replay c.args.text.now parts.result.settings.now parts.result.script.now (reply_seen reply) parts.ensures.settings parts.ensures.script is)

@@ -1,0 +1,3 @@
+pub mod EntryLine
+pub mod Fed
+pub mod Feed
