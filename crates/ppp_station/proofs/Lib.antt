@@ -1,9 +1,9 @@
 mod FrameLemmas
 mod ListLemmas
-mod OrdersLemmas
-mod PhaseLemmas
-mod SignalLemmas
+pub mod OrdersLemmas
+pub mod PhaseLemmas
+pub mod SignalLemmas
 mod StationLemmas
 mod StationOutLemmas
 mod StepsLemmas
-mod WovenLemmas
+pub mod WovenLemmas

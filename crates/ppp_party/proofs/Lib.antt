@@ -1,0 +1,3 @@
+mod LedgerLemmas
+mod OrderLemmas
+mod PostLemmas

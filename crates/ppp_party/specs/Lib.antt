@@ -1,0 +1,4 @@
+pub mod Events
+pub mod Frame
+pub mod Ledger
+pub mod Party

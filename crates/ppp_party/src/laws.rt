@@ -1,0 +1,5 @@
+//! Laws.
+
+/// Does nothing.
+pub fn nothing()
+{}

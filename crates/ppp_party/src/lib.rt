@@ -1,0 +1,4 @@
+//! One end of a world.
+#![tactic(auto)]
+
+pub mod laws;
