@@ -1,11 +1,10 @@
 -- Frames of control protocols, as a reader takes them who knows both short headers.
-use Rattle.std.proofs.Common.{◌≡◌, ℕ, ◌+◌, ◌*◌, ◌/◌, ◌%◌, ◌≤◌, Bool, true, false, List, [], ◌∷◌, ◌++◌, length, length-append, refl, ap, sym, ◌∙◌, arith, inl, inr, get_or}
+use Rattle.std.proofs.Common.{◌≡◌, ℕ, ◌+◌, ◌/◌, ◌%◌, ◌≤◌, Bool, true, false, List, [], ◌∷◌, ◌++◌, length, length-append, refl, ap, ◌∙◌, arith, inl, inr, get_or}
 use Rattle.std.specs.Prelude.{Some}
 use Rattle.ppp_frame.specs.declared.form.Form.{Form}
-use Rattle.ppp_frame.specs.Deframer.{ends_by, feed_step}
-use Rattle.ppp_frame.specs.Escapes.{unstuffed}
+use Rattle.ppp_frame.specs.Deframer.{ends_by}
 use Rattle.ppp_frame.specs.Fcs.{checked, fcs_octets}
-use Rattle.ppp_frame.specs.Frame.{enc, inside, FramedWithin}
+use Rattle.ppp_frame.specs.Frame.{enc, inside}
 use Rattle.ppp_frame.specs.Header.{Addressed, Headed, address_octets, header_of, headed, is_short, leaves_out, protocol_octets, reads}
 use Rattle.ppp_frame.specs.Verdict.{Taken, answer_of}
 use Rattle.ppp_frame.proofs.EscapesLemmas.{escapes_read, escapes_stuffed, length-unstuffed}

@@ -1,4 +1,4 @@
-mod FrameLemmas
+pub mod FrameLemmas
 mod ListLemmas
 pub mod OrdersLemmas
 pub mod PhaseLemmas

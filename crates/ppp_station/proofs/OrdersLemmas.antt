@@ -1,6 +1,6 @@
 -- What a step of a link is to each of its automata.
 use Rattle.std.proofs.Common.{◌≡◌, ℕ, ◌+◌, ◌%◌, ◌≤◌, Bool, true, false, if◌then◌else◌, List, [], ◌∷◌, ◌++◌, length, refl, sym, ap, ◌∙◌, append_assoc, append-nil, arith}
-use Rattle.std.specs.Prelude.{◌==◌, ◌||◌, Option, Some, None, option_map}
+use Rattle.std.specs.Prelude.{◌==◌, ◌||◌, Option, Some, None}
 use Rattle.std.specs.List.{AllByRecursion, flat_map}
 use Rattle.std.proofs.lemmas.Grind.{flat_map-append}
 use Rattle.std.proofs.lemmas.Iterator.Adapters.{option_map_id}
@@ -19,12 +19,12 @@ use Rattle.ppp_frame.specs.Frame.{enc}
 use Rattle.ppp_frame.specs.Header.{Read, reads}
 use Rattle.ppp_link.specs.Automata.{Automata, all_changed, auto_at, cap_of, changed, form_for, whole_form, with_cap}
 use Rattle.ppp_link.specs.Link.{Fed, Link, event_did, fed_with, read_by}
-use Rattle.ppp_link.specs.LinkOut.{Entry, Push, LcpUp, LcpDown, Finished, NetUp, NetDown, Payload}
+use Rattle.ppp_link.specs.LinkOut.{Entry, Push, Payload}
 use Rattle.ppp_link.specs.LinkTables.{LinkTables, table_of}
 use Rattle.ppp_link.specs.Proto.{nets}
-use Rattle.ppp_link.specs.Steps.{Did, Given, Event, Packet, after, and_tells, auto_given, begins, does, does_rejected, each_does, hears, hears_as, hears_other, hears_read, is_payload, reject_packet, rejected_if, rejected_in, rejects, settled_after, signal_told, takes, there, told_all, told_by, told_if, told_one}
+use Rattle.ppp_link.specs.Steps.{Did, Given, Event, Packet, after, and_tells, auto_given, begins, does, does_rejected, each_does, hears, hears_as, hears_other, hears_read, is_payload, reject_packet, rejected_if, rejected_in, rejects, settled_after, signal_told, takes, there, told_all, told_by, told_if}
 use Rattle.ppp_link.specs.declared.link_out.TheConstants.{MOST_PUSH}
-use Rattle.ppp_station.specs.Orders.{Obeyed, Order, SetsCap, auto_by, caps_after, is_same, obeys, obeys_all, of_frame, of_frame_for, of_given, of_link, of_other, of_packet, of_read, of_rejected, of_rejected_there, of_run, order_of, own_order, packet_if, packets_in, read_in, rejects_as, sent_by, sent_one}
+use Rattle.ppp_station.specs.Orders.{Order, SetsCap, auto_by, caps_after, is_same, obeys, obeys_all, of_frame, of_frame_for, of_given, of_link, of_other, of_packet, of_read, of_rejected, of_rejected_there, of_run, order_of, own_order, packet_if, packets_in, read_in, rejects_as, sent_by}
 use Rattle.ppp_station.specs.Steps.{Happening, LineUp, LineDown, Opens, Closes, TimesOut, Takes, link_does}
 use Rattle.ppp_station.proofs.FrameLemmas.{control-read, enc-longer}
 

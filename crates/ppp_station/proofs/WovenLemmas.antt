@@ -1,7 +1,6 @@
 -- The entries of a link's step, worked off in order, as one of its automata sees them.
-use Rattle.std.proofs.Common.{◌≡◌, ℕ, Bool, true, false, if◌then◌else◌, List, [], ◌∷◌, ◌++◌, length, ◌≤◌, refl, sym, ap, subst, ◌∙◌, append_assoc, append-nil, inl, inr}
-use Rattle.std.specs.Prelude.{◌⊎◌, ◌==◌, Option, Some, None}
-use Rattle.std.specs.List.{AllByRecursion, flat_map}
+use Rattle.std.proofs.Common.{◌≡◌, ℕ, Bool, true, false, if◌then◌else◌, List, [], ◌∷◌, ◌++◌, refl, sym, ap, subst, ◌∙◌, append_assoc, append-nil, inl, inr}
+use Rattle.std.specs.Prelude.{Option, None}
 use Rattle.std.proofs.lemmas.Grind.{flat_map-append}
 use Rattle.std.proofs.lemmas.Bool.{eq-eqb}
 use Rattle.ppp_auto.specs.Auto.{Auto}
@@ -16,8 +15,8 @@ use Rattle.ppp_link.specs.LinkTables.{LinkTables}
 use Rattle.ppp_link.specs.Steps.{Did, begins}
 use Rattle.ppp_station.specs.Orders.{Order, auto_by, caused, of_link, of_run, orders, packet_of, packets_of, sent_by}
 use Rattle.ppp_station.specs.StationOut.{AreShort, Entry, Push, Got, Hang}
-use Rattle.ppp_station.specs.Steps.{Done, Happening, all_plain, and_tells, hands_up, is_opened_at, link_does, link_done, opener_of, plain, runs, works, works_one}
-use Rattle.ppp_station.proofs.OrdersLemmas.{AllShort, IsShortPush, LinkTracks, Tracks, link_packet, link_packets, auto_by-append, link-tracks, no-orders, run-tracks, sent_by-append}
+use Rattle.ppp_station.specs.Steps.{Done, Happening, all_plain, and_tells, is_opened_at, link_does, link_done, opener_of, runs, works, works_one}
+use Rattle.ppp_station.proofs.OrdersLemmas.{AllShort, IsShortPush, Tracks, link_packet, link_packets, auto_by-append, link-tracks, no-orders, run-tracks, sent_by-append}
 use Rattle.ppp_station.proofs.SignalLemmas.{IsParted, all_caused, link-parted}
 
 -- ---- lists

@@ -1,5 +1,5 @@
 -- What an event of a station is to the automaton of one protocol on one link: orders, in the words of the laws on two ends.
-use Rattle.std.specs.Prelude.{ℕ, ◌≤◌, Bool, true, false, ◌==◌, ◌||◌, if◌then◌else◌, List, [], ◌∷◌, ◌++◌, length, Option, Some, None, option_map}
+use Rattle.std.specs.Prelude.{ℕ, Bool, true, false, ◌==◌, ◌||◌, if◌then◌else◌, List, [], ◌∷◌, ◌++◌, Option, Some, None, option_map}
 use Rattle.std.specs.List.{flat_map}
 use Rattle.ppp_packet.specs.Proto.{proto_number, proto_of}
 use Rattle.ppp_packet.specs.declared.proto.Proto.{Proto}
@@ -13,7 +13,7 @@ use Rattle.ppp_auto.specs.declared.auto_event.AutoEvent.TheVariants.{Up, Down, A
 use Rattle.ppp_frame.specs.Deframer.{DeframerState, feed_step}
 use Rattle.ppp_frame.specs.Header.{Read}
 use Rattle.ppp_frame.specs.Standing.{fresh}
-use Rattle.ppp_link.specs.Automata.{Automata, auto_at, cap_of, with_cap}
+use Rattle.ppp_link.specs.Automata.{Automata, cap_of, with_cap}
 use Rattle.ppp_link.specs.Link.{Link, read_by}
 use Rattle.ppp_link.specs.LinkOut.{Entry as LinkTold}
 use Rattle.ppp_link.specs.LinkOut as told

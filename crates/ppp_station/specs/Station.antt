@@ -1,6 +1,5 @@
 -- One whole end of single links.
 use Rattle.std.specs.Prelude.{◌≡◌, ℕ, zero, suc, ◌+◌, ◌-◌, ◌≤◌, List, [], ◌∷◌, ◌++◌, length, map, Option, Some, None, slice_get}
-use Rattle.std.specs.List.{AllByRecursion}
 use Rattle.ppp_conf.specs.EndConfig.{EndSettings}
 use Rattle.ppp_packet.specs.declared.proto.Proto.{Proto}
 use Rattle.ppp_packet.specs.declared.proto.Proto.TheVariants.{Bacp}
@@ -10,7 +9,7 @@ use Rattle.ppp_link.specs.LinkSettings.{LinkSettings, settings_of}
 use Rattle.ppp_link.specs.LinkTables.{LinkTables, tables_seen}
 use Rattle.ppp_link.specs.Proto.{nets}
 use Rattle.ppp_station.specs.StationOut.{Out}
-use Rattle.ppp_station.specs.Steps.{Done, Happening, LineUp, LineDown, Opens, Closes, TimesOut, Takes, link_does, link_done, IsUsed}
+use Rattle.ppp_station.specs.Steps.{Happening, LineUp, LineDown, Opens, Closes, TimesOut, Takes, link_does, link_done, IsUsed}
 use Rattle.ppp_station.specs.declared.station_event.StationEvent.{StationEvent}
 use Rattle.ppp_station.specs.declared.station_event.StationEvent.TheVariants as event
 

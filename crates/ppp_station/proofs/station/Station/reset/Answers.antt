@@ -1,4 +1,4 @@
-use Rattle.std.proofs.Common.{◌++◌, ◌∷◌, [], add-one, ap, arith, length, length-set, ◌∙◌}
+use Rattle.std.proofs.Common.{◌++◌, ◌∷◌, [], add-one, ap, arith, length-set, ◌∙◌}
 use Rattle.ppp_packet.specs.declared.proto.Proto.TheVariants.{Bacp}
 use Rattle.ppp_link.specs.Link.{Link, link_begun}
 use Rattle.ppp_link.specs.Proto.{nets}

@@ -1,6 +1,6 @@
 use Rattle.std.specs.Prelude.{None}
-use Rattle.std.proofs.Common.{◌∙◌, ◌+◌, ◌++◌, ◌∷◌, [], List, length, ap, arith}
-use Rattle.ppp_station.specs.StationOut.{Entry, Out, Got, all_octets}
+use Rattle.std.proofs.Common.{◌∙◌, ◌+◌, ◌++◌, ◌∷◌, [], length, ap, arith}
+use Rattle.ppp_station.specs.StationOut.{Out, Got, all_octets}
 use Rattle.ppp_station.proofs.StationOutLemmas.{put-got, short-snoc, Put}
 use Rattle.ppp_station.proofs.station_out.StationOut.hand_up.Goals as goal
 

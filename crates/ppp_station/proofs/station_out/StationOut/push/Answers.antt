@@ -1,5 +1,5 @@
-use Rattle.std.proofs.Common.{◌∙◌, ◌+◌, ◌++◌, ◌∷◌, [], List, length, ap, arith}
-use Rattle.ppp_station.specs.StationOut.{Entry, Out, Push, all_octets}
+use Rattle.std.proofs.Common.{◌∙◌, ◌+◌, ◌++◌, ◌∷◌, [], length, ap, arith}
+use Rattle.ppp_station.specs.StationOut.{Out, Push, all_octets}
 use Rattle.ppp_station.proofs.StationOutLemmas.{put-push, short-snoc, Put}
 use Rattle.ppp_station.proofs.station_out.StationOut.push.Goals as goal
 
