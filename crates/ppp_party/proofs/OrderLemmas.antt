@@ -1,16 +1,15 @@
 -- Orders to an automaton are events of the two ends' machine.
-use Rattle.std.proofs.Common.{◌≡◌, ℕ, Bool, true, false, List, [], ◌∷◌, ◌++◌, refl, sym, ap, subst, ◌∙◌, append_assoc, append-nil, map}
+use Rattle.std.proofs.Common.{◌≡◌, ℕ, List, [], ◌∷◌, ◌++◌, refl, sym, ap, subst, ◌∙◌, append_assoc, append-nil}
 use Rattle.std.specs.Prelude.{Option, Some, None, ⊤}
-use Rattle.std.specs.List.{AllByRecursion, flat_map}
-use Rattle.std.specs.Option.{option_to_list}
+use Rattle.std.specs.List.{AllByRecursion}
 use Rattle.std.proofs.lemmas.Grind.{flat_map-append}
 use Rattle.ppp_packet.specs.Code.{code_number}
 use Rattle.ppp_packet.specs.declared.code.Code.TheVariants.{ProtocolReject}
 use Rattle.ppp_auto.specs.Auto.{Auto}
-use Rattle.ppp_auto.specs.Automaton.{Acted, after, answering, command, does_row, effects, entries_of, take_in, take_octets, take_read}
+use Rattle.ppp_auto.specs.Automaton.{after, answering, command, does_row, effects, entries_of, take_in, take_read}
 use Rattle.ppp_auto.specs.EventTable.{cell_of}
 use Rattle.ppp_auto.specs.OptionTable.{Table}
-use Rattle.ppp_auto.specs.Outbox.{Effect, Sends}
+use Rattle.ppp_auto.specs.Outbox.{Effect}
 use Rattle.ppp_auto.specs.Packet.{Packet, Request, Ack, Nak, Reject, Other, octets_of, packet_of}
 use Rattle.ppp_auto.specs.Taken.{Taken, input_of, taken_as}
 use Rattle.ppp_auto.specs.declared.action.Action.{Action}
@@ -21,9 +20,9 @@ use Rattle.ppp_duet.specs.Duet.{Did, Duet, End, Event, Marked, Setup, at_first, 
 use Rattle.ppp_duet.proofs.NarrowRunLemmas.{run_append}
 use Rattle.ppp_link.specs.Automata.{with_cap}
 use Rattle.ppp_station.specs.Orders.{Obeyed, Order, Commands, SetsCap, Hears, RejectsProtocol, and_sends, obeyed, obeys, obeys_all, packets_in}
-use Rattle.ppp_party.specs.Events.{HaveNoDelivery, DeliversFirst, Leads, Makes}
+use Rattle.ppp_party.specs.Events.{Leads, Makes}
 use Rattle.ppp_party.specs.Ledger.{Ledger, IsLedgerOf, end_of, heard, noted, noted_all, stamp, stamped}
-use Rattle.ppp_party.proofs.LedgerLemmas.{commanded_kept, commanded_seen, fit_command, packet_of-octets_of, packets_of, posted, proper_command, read_all, read_all-entries, read_one, sent_in, taken_kept, taken_seen}
+use Rattle.ppp_party.proofs.LedgerLemmas.{commanded_kept, commanded_seen, packet_of-octets_of, packets_of, proper_command, read_all, read_one, sent_in, taken_kept, taken_seen}
 
 -- ---- what is noted and stamped, one behind the other
 
@@ -165,8 +164,8 @@ followed sa sb a g mark b to_a to_b first rest one two =
     let all = read_all-append first.sent rest.sent in
     let ledger : noted_all (noted_all g ps) qs ≡ noted_all g (read_all (first.sent ++ rest.sent)) = sym (ap (noted_all g) all ∙ noted_all-append g ps qs) in
     let out : (to_b ++ stamped g mark ps) ++ stamped (noted_all g ps) mark qs ≡ to_b ++ stamped g mark (read_all (first.sent ++ rest.sent)) =
-        append_assoc to_b (stamped g mark ps) (stamped (noted_all g ps) mark qs)
-        ∙ ap (λ ms. to_b ++ ms) (sym (ap (stamped g mark) all ∙ stamped-append g mark ps qs)) in
+    append_assoc to_b (stamped g mark ps) (stamped (noted_all g ps) mark qs)
+    ∙ ap (λ ms. to_b ++ ms) (sym (ap (stamped g mark) all ∙ stamped-append g mark ps qs)) in
     let both = joined sa sb _ _ _ one.events two.events in
     record {
       kept = subst (λ g. IsLedgerOf rest.auto g) ledger two.kept;
@@ -208,10 +207,10 @@ frame-run sa sb a g word b m rest to_b octets os reads none kept =
     let all = read_all-append first.sent did.sent in
     let ledger : noted_all (noted_all now ps) qs ≡ noted_all now (read_all (first.sent ++ did.sent)) = sym (ap (noted_all now) all ∙ noted_all-append now ps qs) in
     let out : (to_b ++ stamped now m.mark ps) ++ stamped (noted_all now ps) m.mark qs ≡ to_b ++ stamped now m.mark (read_all (first.sent ++ did.sent)) =
-        append_assoc to_b (stamped now m.mark ps) (stamped (noted_all now ps) m.mark qs)
-        ∙ ap (λ ms. to_b ++ ms) (sym (ap (stamped now m.mark) all ∙ stamped-append now m.mark ps qs)) in
+    append_assoc to_b (stamped now m.mark ps) (stamped (noted_all now ps) m.mark qs)
+    ∙ ap (λ ms. to_b ++ ms) (sym (ap (stamped now m.mark) all ∙ stamped-append now m.mark ps qs)) in
     let whole : obeys_all sa.table word (Hears octets ∷ os) a ≡ record { auto = did.auto; sent = first.sent ++ did.sent } =
-        ap (λ (x : Obeyed). and_sends x.sent (obeys_all sa.table word os x.auto)) same in
+    ap (λ (x : Obeyed). and_sends x.sent (obeys_all sa.table word os x.auto)) same in
     subst (λ x. Hears-as sa sb a g m.mark b (m ∷ rest) rest to_b now x) (sym whole) (record {
       kept = subst (λ g. IsLedgerOf did.auto g) ledger more.kept;
       events = record {

@@ -1,8 +1,6 @@
 -- Frames that go out on a link, as each protocol sees them.
-use Rattle.std.proofs.Common.{◌≡◌, ◌≢◌, ℕ, zero, suc, ◌+◌, ◌-◌, ◌≤◌, Bool, true, false, if◌then◌else◌, List, [], ◌∷◌, ◌++◌, length, take, drop, refl, sym, ap, ◌∙◌, append_assoc, append-nil, take-append-drop, length-append, arith}
+use Rattle.std.proofs.Common.{◌≡◌, ℕ, zero, suc, ◌+◌, Bool, true, false, if◌then◌else◌, List, [], ◌∷◌, ◌++◌, length, take, drop, refl, sym, ap, ◌∙◌, append-nil, take-append-drop, arith}
 use Rattle.std.specs.Prelude.{Option, Some, None, ◌==◌, option_map, slice_get}
-use Rattle.std.specs.List.{AllByRecursion, flat_map}
-use Rattle.std.proofs.lemmas.Bool.{eq-eqb}
 use Rattle.std.proofs.lemmas.Bool.Decides.{nat_tests}
 use Rattle.std.proofs.lemmas.Grind.{flat_map-append}
 use Rattle.ppp_packet.specs.Proto.{proto_number, proto_of}
@@ -13,13 +11,12 @@ use Rattle.ppp_duet.specs.Duet as duet
 use Rattle.ppp_duet.specs.Duet.{Duet, End, Event, Marked, Setup, at_first, run, without}
 use Rattle.ppp_frame.specs.Header.{Read}
 use Rattle.ppp_station.specs.Orders.{is_same, packet_if, packets_of, read_in}
-use Rattle.ppp_station.specs.Orders as station
 use Rattle.ppp_station.specs.StationOut.{Entry, Push, Got, Hang}
 use Rattle.ppp_station.proofs.OrdersLemmas.{same-proto}
 use Rattle.ppp_party.specs.Events.{Leads}
 use Rattle.ppp_party.specs.Frame.{Carried, Frame, carried, carried_as, carried_by, mark_by, marked_for, marked_frames, noted_by, noted_frames, noted_if, only, packet_for, packets_for, seen}
-use Rattle.ppp_party.specs.Ledger.{Ledger, Ledgers, ledger_at, noted, noted_all, stamp, stamped}
-use Rattle.ppp_party.specs.Party.{each_noted, each_queued, push_on, pushes_on, queued, room}
+use Rattle.ppp_party.specs.Ledger.{Ledger, Ledgers, ledger_at, noted_all, stamp, stamped}
+use Rattle.ppp_party.specs.Party.{each_noted, each_queued, pushes_on, queued, room}
 use Rattle.ppp_party.proofs.LedgerLemmas.{read_all, read_one}
 use Rattle.ppp_party.proofs.OrderLemmas.{noted_all-append, read_all-append, stamped-append}
 
@@ -33,10 +30,10 @@ number-none n Osi e = grind (arith, nat_tests)
 number-none n Mpls e = grind (arith, nat_tests)
 number-none n Bacp e = grind (arith, nat_tests)
 
-number-some : (n : ℕ) (q : Proto) → proto_of n ≡ Some q → n ≡ proto_number q
+pub number-some : (n : ℕ) (q : Proto) → proto_of n ≡ Some q → n ≡ proto_number q
 number-some n q e = grind (arith, nat_tests)
 
-of-info : (p q : Proto) (o : Option Packet) (b : Bool) → is_same p q ≡ b →
+pub of-info : (p q : Proto) (o : Option Packet) (b : Bool) → is_same p q ≡ b →
     packet_for p (option_map (λ packet. record { proto = q; packet = packet }) o) ≡ (if b then read_one o else [])
 of-info p q None true e = refl
 of-info p q None false e = refl
@@ -145,7 +142,7 @@ pub queued-leads : (sa sb : Setup) (a b : End) (to_a : List Marked) (p : Proto) 
 queued-leads sa sb a b to_a p queue sent =
     let all = queue ++ sent in
     let parts : only p queue ++ only p sent ≡ only p (take room all) ++ only p (drop room all) =
-        sym (only-append p queue sent) ∙ ap (only p) (sym (take-append-drop room all)) ∙ only-append p (take room all) (drop room all) in
+    sym (only-append p queue sent) ∙ ap (only p) (sym (take-append-drop room all)) ∙ only-append p (take room all) (drop room all) in
     let losses = tail-lost sa sb a b to_a (only p (take room all)) (only p (drop room all)) in
     record { events = losses.events; none = losses.none; leads = ap (λ ms. run sa sb losses.events (record { a = a; b = b; to_a = to_a; to_b = ms })) parts ∙ losses.leads }
 

@@ -1,6 +1,6 @@
 -- Frames under way on a link: octets with a mark, and the packet of a control protocol that they carry. They are read with both
 -- short headers, whatever is granted at the moment, so what is under way stays the same while grants change.
-use Rattle.std.specs.Prelude.{ℕ, ◌==◌, if◌then◌else◌, List, [], ◌∷◌, Option, Some, None, option_map}
+use Rattle.std.specs.Prelude.{ℕ, if◌then◌else◌, List, [], ◌∷◌, Option, Some, None, option_map}
 use Rattle.std.specs.List.{flat_map}
 use Rattle.ppp_packet.specs.declared.proto.Proto.{Proto}
 use Rattle.ppp_packet.specs.Proto.{proto_of}

@@ -5,10 +5,9 @@ use Rattle.std.specs.List.{flat_map}
 use Rattle.ppp_auto.specs.Auto.{Auto}
 use Rattle.ppp_auto.specs.Packet.{Packet, packet_of}
 use Rattle.ppp_duet.specs.Duet.{without}
-use Rattle.ppp_packet.specs.declared.proto.Proto.{Proto}
 use Rattle.ppp_link.specs.Automata.{auto_at}
 use Rattle.ppp_link.specs.Link.{Link}
-use Rattle.ppp_station.specs.Orders.{Order, Commands, SetsCap, Hears, RejectsProtocol, of_link}
+use Rattle.ppp_station.specs.Orders.{Order, Hears, of_link}
 use Rattle.ppp_station.specs.Station.{Stepped, on_link}
 use Rattle.ppp_station.specs.StationOut.{Entry, Push, Got, Hang}
 use Rattle.ppp_station.specs.Steps.{Happening, Takes}

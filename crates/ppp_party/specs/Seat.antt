@@ -1,6 +1,6 @@
 -- One link of an end: its station's link, its ledgers, and the frames under way on it both ways; and what an event on the link
 -- makes of these. It is what two ends of one protocol on one link are read off.
-use Rattle.std.specs.Prelude.{◌≡◌, ℕ, ◌+◌, ◌-◌, ◌≤◌, ⊤, List, [], ◌∷◌, length, Option, Some, slice_get}
+use Rattle.std.specs.Prelude.{◌≡◌, ℕ, ◌+◌, ◌-◌, ◌≤◌, ⊤, List, [], ◌∷◌, length, Some, slice_get}
 use Rattle.std.specs.List.{AllByRecursion}
 use Rattle.ppp_auto.specs.Auto.{Auto}
 use Rattle.ppp_duet.specs.Duet.{Duet, End, Setup, without}
@@ -13,10 +13,10 @@ use Rattle.ppp_link.specs.Automata.{auto_at}
 use Rattle.ppp_link.specs.Link.{Link}
 use Rattle.ppp_link.specs.LinkTables.{table_of}
 use Rattle.ppp_link.specs.declared.link.TheConstants.{MOST_FRAME}
-use Rattle.ppp_station.specs.StationOut.{Entry, Push, Got, Hang}
 use Rattle.ppp_station.specs.Steps.{Done, Happening, LineUp, LineDown, Opens, Closes, TimesOut, Takes, link_done}
+use Rattle.ppp_party.specs.Events.{Makes}
 use Rattle.ppp_party.specs.Frame.{Frame, marked_frames, noted_frames, only}
-use Rattle.ppp_party.specs.Ledger.{Ledger, Ledgers, IsLedgerOf, end_of, ledger_at}
+use Rattle.ppp_party.specs.Ledger.{Ledgers, IsLedgerOf, end_of, ledger_at}
 use Rattle.ppp_party.specs.Party.{Ends, heard_on, pushes_on, queued, room}
 
 pub record Seat : Type 0 where
@@ -101,3 +101,17 @@ pub record IsEnd (sa : Setup) (p : Proto) (s : Seat) (a : Auto) : Type 0 where
 -- the two ends, where the other one is that
 abbrev pub seat_duet : Proto → Auto → Seat → End → Duet
 seat_duet p a s b = record { a = end_of a (ledger_at s.ledgers p); b = b; to_a = only p s.incoming; to_b = only p s.outgoing }
+
+-- a protocol is configured on that link of an end, with that automaton, and all is well there
+pub record IsSeated (sa : Setup) (p : Proto) (m : ℕ) (e : Ends) (s : Seat) (a : Auto) : Type 0 where
+  pub at : SeatAt m e s
+  pub well : IsWell s
+  pub end : IsEnd sa p s a
+
+-- What an event came to for a protocol on a link: the link as it is then, its automaton, and a list of the two ends' events, of
+-- which only the first may be a delivery, that leads there.
+pub record Came (sa sb : Setup) (p : Proto) (m : ℕ) (s : Seat) (a : Auto) (b : End) (after : Ends) : Type 0 where
+  pub seat : Seat
+  pub auto : Auto
+  pub seated : IsSeated sa p m after seat auto
+  pub makes : Makes sa sb (seat_duet p a s b) (seat_duet p auto seat b)

@@ -3,7 +3,7 @@ mod ListLemmas
 pub mod OrdersLemmas
 pub mod PhaseLemmas
 pub mod SignalLemmas
-mod StationLemmas
+pub mod StationLemmas
 mod StationOutLemmas
 mod StepsLemmas
 pub mod WovenLemmas
