@@ -1,0 +1,7 @@
+mod LedgerLemmas
+mod OrderLemmas
+mod PostLemmas
+mod ReadLemmas
+mod SeatLemmas
+mod SentLemmas
+mod StepLemmas

@@ -1,0 +1,109 @@
+-- One end of a world: a station, what is counted of its requests, and the frames under way to it, link by link; and what an
+-- event at it makes of it, and of the frames under way to the other end.
+use Rattle.std.specs.Prelude.{ℕ, zero, suc, ◌+◌, ◌-◌, ◌==◌, if◌then◌else◌, List, [], ◌∷◌, ◌++◌, take, Option, Some, None, slice_get}
+use Rattle.std.specs.List.{flat_map}
+use Rattle.ppp_auto.specs.Auto.{Auto}
+use Rattle.ppp_auto.specs.Packet.{Packet, packet_of}
+use Rattle.ppp_duet.specs.Duet.{without}
+use Rattle.ppp_link.specs.Automata.{auto_at}
+use Rattle.ppp_link.specs.Link.{Link}
+use Rattle.ppp_station.specs.Orders.{Order, Hears, of_link}
+use Rattle.ppp_station.specs.Station.{Stepped, on_link}
+use Rattle.ppp_station.specs.StationOut.{Entry, Push, Got, Hang}
+use Rattle.ppp_station.specs.Steps.{Happening, Takes}
+use Rattle.ppp_party.specs.Frame.{Frame, marked_frames, noted_frames}
+use Rattle.ppp_party.specs.Ledger.{Ledger, Ledgers, heard, ledger_at, ledgers_by}
+
+pub record Party : Type 0 where
+  pub links : List Link
+  pub ledgers : List Ledgers
+  pub incoming : List (List Frame)
+
+-- ---- what goes out
+
+-- the frames that go out on a link
+abbrev pub push_on : ℕ → Entry → List (List ℕ)
+push_on m (Push l octets) = if l == m then octets ∷ [] else []
+push_on m (Got class protocol octets) = []
+push_on m (Hang l) = []
+
+abbrev pub pushes_on : ℕ → List Entry → List (List ℕ)
+pushes_on m es = flat_map (push_on m) es
+
+-- How many frames a queue holds. One that is sent into a full queue is lost.
+abbrev pub room : ℕ
+room = 1024
+
+abbrev pub queued : List Frame → List Frame → List Frame
+queued queue sent = take room (queue ++ sent)
+
+-- link by link, from that number on
+abbrev pub each_noted : ℕ → List Entry → List Ledgers → List Ledgers
+each_noted m es [] = []
+each_noted m es (gs ∷ more) = noted_frames gs (pushes_on m es) ∷ each_noted (m + 1) es more
+
+abbrev pub each_queued : ℕ → ℕ → List Entry → List Ledgers → List (List Frame) → List (List Frame)
+each_queued m mark es (gs ∷ more) (queue ∷ queues) =
+    queued queue (marked_frames gs mark (pushes_on m es)) ∷ each_queued (m + 1) mark es more queues
+each_queued m mark es [] queues = queues
+each_queued m mark es gs [] = []
+
+-- an end, and the other one
+pub record Ends : Type 0 where
+  pub own : Party
+  pub other : Party
+
+-- the station's step is done, and what goes out is noted and under way, behind a frame of that mark
+abbrev pub posted : ℕ → Stepped → Ends → Ends
+posted mark step e = record {
+  own = record e.own { links = step.links; ledgers = each_noted 1 step.out.entries e.own.ledgers };
+  other = record e.other { incoming = each_queued 1 mark step.out.entries e.own.ledgers e.other.incoming };
+}
+
+-- ---- what happens at the end
+
+-- something that brings no frame
+unfoldable pub happens : Happening → ℕ → ℕ → Ends → Ends
+happens what l word e = posted 0 (on_link what l e.own.links word) e
+
+-- at a link, from 1 on
+abbrev pub at_link : {X : Type 0} → ℕ → (X → X) → List X → List X
+at_link l f [] = []
+at_link zero f (x ∷ xs) = x ∷ xs
+at_link (suc zero) f (x ∷ xs) = f x ∷ xs
+at_link (suc (suc l)) f (x ∷ xs) = x ∷ at_link (suc l) f xs
+
+-- a request is heard of where its packet comes for an automaton that is beyond Initial and Starting
+abbrev pub heard_packet : Ledger → Option Auto → ℕ → Option Packet → Ledger
+heard_packet g (Some a) mark (Some packet) = heard g a.state mark packet
+heard_packet g a mark packet = g
+
+abbrev pub heard_by : Ledger → Option Auto → ℕ → List Order → Ledger
+heard_by g a mark (Hears octets ∷ more) = heard_packet g a mark (packet_of octets)
+heard_by g a mark orders = g
+
+abbrev pub heard_on : Link → Frame → ℕ → Ledgers → Ledgers
+heard_on k f word gs =
+    ledgers_by (λ p. heard_by (ledger_at gs p) (auto_at k.automata p) f.mark (of_link p (Takes f.octets) k word))
+
+-- the frame is taken out of its queue, heard of, and given to the station
+abbrev pub with_heard : ℕ → ℕ → Frame → List Frame → Option Link → Party → Party
+with_heard l word f rest (Some k) e = record e { ledgers = at_link l (heard_on k f word) e.ledgers; incoming = at_link l (λ queue. rest) e.incoming }
+with_heard l word f rest None e = e
+
+abbrev pub taking : ℕ → ℕ → Frame → List Frame → Ends → Ends
+taking l word f rest e =
+    posted f.mark (on_link (Takes f.octets) l e.own.links word) (record e { own = with_heard l word f rest (slice_get e.own.links (l - 1)) e.own })
+
+abbrev pub taking_front : ℕ → ℕ → Option (List Frame) → Ends → Ends
+taking_front l word None e = e
+taking_front l word (Some []) e = e
+taking_front l word (Some (f ∷ rest)) e = taking l word f rest e
+
+-- the front frame of a link is taken, if there is one
+unfoldable pub delivers : ℕ → ℕ → Ends → Ends
+delivers l word e = taking_front l word (slice_get e.own.incoming (l - 1)) e
+
+-- the frame of that place under way to the end is lost, from 1 on
+unfoldable pub loses : ℕ → ℕ → Ends → Ends
+loses l place e = record e { own = record e.own { incoming = at_link l (without place) e.own.incoming } }

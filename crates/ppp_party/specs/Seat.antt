@@ -1,0 +1,117 @@
+-- One link of an end: its station's link, its ledgers, and the frames under way on it both ways; and what an event on the link
+-- makes of these. It is what two ends of one protocol on one link are read off.
+use Rattle.std.specs.Prelude.{◌≡◌, ℕ, ◌+◌, ◌-◌, ◌≤◌, ⊤, List, [], ◌∷◌, length, Some, slice_get}
+use Rattle.std.specs.List.{AllByRecursion}
+use Rattle.ppp_auto.specs.Auto.{Auto}
+use Rattle.ppp_duet.specs.Duet.{Duet, End, Setup, without}
+use Rattle.ppp_frame.specs.declared.form.Form.{Form}
+use Rattle.ppp_frame.specs.Frame.{enc}
+use Rattle.ppp_frame.specs.Standing.{fresh}
+use Rattle.ppp_packet.specs.Proto.{proto_number}
+use Rattle.ppp_packet.specs.declared.proto.Proto.{Proto}
+use Rattle.ppp_link.specs.Automata.{auto_at}
+use Rattle.ppp_link.specs.Link.{Link}
+use Rattle.ppp_link.specs.LinkTables.{table_of}
+use Rattle.ppp_link.specs.declared.link.TheConstants.{MOST_FRAME}
+use Rattle.ppp_station.specs.Steps.{Done, Happening, LineUp, LineDown, Opens, Closes, TimesOut, Takes, link_done}
+use Rattle.ppp_party.specs.Events.{Makes}
+use Rattle.ppp_party.specs.Frame.{Frame, marked_frames, noted_frames, only}
+use Rattle.ppp_party.specs.Ledger.{Ledgers, IsLedgerOf, end_of, ledger_at}
+use Rattle.ppp_party.specs.Party.{Ends, heard_on, pushes_on, queued, room}
+
+pub record Seat : Type 0 where
+  pub link : Link
+  pub ledgers : Ledgers
+  pub incoming : List Frame
+  pub outgoing : List Frame
+
+-- that link of an end, and of the frames under way to the other
+pub record SeatAt (m : ℕ) (e : Ends) (s : Seat) : Type 0 where
+  pub link : slice_get e.own.links (m - 1) ≡ Some s.link
+  pub ledgers : slice_get e.own.ledgers (m - 1) ≡ Some s.ledgers
+  pub incoming : slice_get e.own.incoming (m - 1) ≡ Some s.incoming
+  pub outgoing : slice_get e.other.incoming (m - 1) ≡ Some s.outgoing
+
+-- ---- what happens on the link
+
+-- the station's step is done, and what goes out is noted and under way, behind a frame of that mark
+abbrev pub seat_posted : ℕ → ℕ → Done → Seat → Seat
+seat_posted mark l done s = record {
+  link = done.link;
+  ledgers = noted_frames s.ledgers (pushes_on l done.out);
+  incoming = s.incoming;
+  outgoing = queued s.outgoing (marked_frames s.ledgers mark (pushes_on l done.out));
+}
+
+abbrev pub seat_happens : Happening → ℕ → ℕ → Seat → Seat
+seat_happens what l word s = seat_posted 0 l (link_done what l s.link word) s
+
+abbrev pub seat_taking : ℕ → ℕ → Frame → List Frame → Seat → Seat
+seat_taking l word f rest s =
+    seat_posted f.mark l (link_done (Takes f.octets) l s.link word) (record s { ledgers = heard_on s.link f word s.ledgers; incoming = rest })
+
+abbrev pub seat_delivers : ℕ → ℕ → List Frame → Seat → Seat
+seat_delivers l word [] s = s
+seat_delivers l word (f ∷ rest) s = seat_taking l word f rest s
+
+abbrev pub seat_loses : ℕ → Seat → Seat
+seat_loses place s = record s { incoming = without place s.incoming }
+
+-- no octets come by it
+abbrev pub IsNoFrame : Happening → Type 0
+IsNoFrame LineUp = ⊤
+IsNoFrame LineDown = ⊤
+IsNoFrame (Opens p) = ⊤
+IsNoFrame (Closes p) = ⊤
+IsNoFrame (TimesOut p) = ⊤
+IsNoFrame (Takes octets) = ⊥
+
+-- ---- what holds on the link
+
+-- these octets are what is sent of some packet of a control protocol
+pub record IsSent (octets : List ℕ) : Type 0 where
+  pub form : Form
+  pub proto : Proto
+  pub info : List ℕ
+  pub is : octets ≡ enc form (proto_number proto) info
+  pub few : length info + 6 ≤ MOST_FRAME
+
+abbrev pub AreSent : List Frame → Type 0
+AreSent frames = AllByRecursion (λ f. IsSent f.octets) frames
+
+-- between two frames the deframer stands as after a flag
+pub record IsSettled (k : Link) : Type 0 where
+  pub stands : k.deframer.standing ≡ fresh
+  pub limit : k.deframer.reader.limit ≡ MOST_FRAME
+
+pub record IsWell (s : Seat) : Type 0 where
+  pub settled : IsSettled s.link
+  pub incoming : AreSent s.incoming
+  pub outgoing : AreSent s.outgoing
+  pub few : length s.outgoing ≤ room
+
+-- ---- the two ends of a protocol
+
+-- the end of a protocol on the link, with that automaton
+pub record IsEnd (sa : Setup) (p : Proto) (s : Seat) (a : Auto) : Type 0 where
+  pub table : sa.table ≡ table_of s.link.tables p
+  pub auto : auto_at s.link.automata p ≡ Some a
+  pub kept : IsLedgerOf a (ledger_at s.ledgers p)
+
+-- the two ends, where the other one is that
+abbrev pub seat_duet : Proto → Auto → Seat → End → Duet
+seat_duet p a s b = record { a = end_of a (ledger_at s.ledgers p); b = b; to_a = only p s.incoming; to_b = only p s.outgoing }
+
+-- a protocol is configured on that link of an end, with that automaton, and all is well there
+pub record IsSeated (sa : Setup) (p : Proto) (m : ℕ) (e : Ends) (s : Seat) (a : Auto) : Type 0 where
+  pub at : SeatAt m e s
+  pub well : IsWell s
+  pub end : IsEnd sa p s a
+
+-- What an event came to for a protocol on a link: the link as it is then, its automaton, and a list of the two ends' events, of
+-- which only the first may be a delivery, that leads there.
+pub record Came (sa sb : Setup) (p : Proto) (m : ℕ) (s : Seat) (a : Auto) (b : End) (after : Ends) : Type 0 where
+  pub seat : Seat
+  pub auto : Auto
+  pub seated : IsSeated sa p m after seat auto
+  pub makes : Makes sa sb (seat_duet p a s b) (seat_duet p auto seat b)

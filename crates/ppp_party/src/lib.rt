@@ -1,0 +1,15 @@
+//! One end of a world, link by link: a station, what is counted of the Configure-Requests of each protocol, and the frames
+//! under way to it. There is no code here but the functions of [`laws`], which do nothing and carry the laws as their
+//! contracts.
+//!
+//! A frame under way is octets with a mark beside them, which no end reads: the ordinal of a request, and of an answer that of
+//! what it answers. `specs/Party` has what an event at the end makes of it, and of the frames under way to the other end;
+//! `specs/Seat` the same of one link. The frames are read with both short headers, whatever is granted at the moment.
+//!
+//! The laws on two ends of one protocol (`ppp_duet`) speak of packets. That each event at an end is a list of their events, for
+//! every protocol on every link, is what stands here.
+//!
+//! Left out: bundles, datagrams that are sent, and an end that begins anew.
+#![tactic(auto)]
+
+pub mod laws;
