@@ -1,11 +1,10 @@
 -- Frames of control protocols, as a reader takes them who knows both short headers.
-use Rattle.std.proofs.Common.{◌≡◌, ℕ, ◌+◌, ◌*◌, ◌/◌, ◌%◌, ◌≤◌, Bool, true, false, List, [], ◌∷◌, ◌++◌, length, length-append, refl, ap, sym, ◌∙◌, arith, inl, inr, get_or}
+use Rattle.std.proofs.Common.{◌≡◌, ℕ, ◌+◌, ◌/◌, ◌%◌, ◌≤◌, Bool, true, false, List, [], ◌∷◌, ◌++◌, length, length-append, refl, ap, ◌∙◌, arith, inl, inr, get_or}
 use Rattle.std.specs.Prelude.{Some}
 use Rattle.ppp_frame.specs.declared.form.Form.{Form}
-use Rattle.ppp_frame.specs.Deframer.{ends_by, feed_step}
-use Rattle.ppp_frame.specs.Escapes.{unstuffed}
+use Rattle.ppp_frame.specs.Deframer.{ends_by}
 use Rattle.ppp_frame.specs.Fcs.{checked, fcs_octets}
-use Rattle.ppp_frame.specs.Frame.{enc, inside, FramedWithin}
+use Rattle.ppp_frame.specs.Frame.{enc, inside}
 use Rattle.ppp_frame.specs.Header.{Addressed, Headed, address_octets, header_of, headed, is_short, leaves_out, protocol_octets, reads}
 use Rattle.ppp_frame.specs.Verdict.{Taken, answer_of}
 use Rattle.ppp_frame.proofs.EscapesLemmas.{escapes_read, escapes_stuffed, length-unstuffed}
@@ -59,12 +58,12 @@ unfolding read_in
 control-read form p octets few =
     let n = proto_number p in
     let taken : answer_of open_reader.reader (inside form n octets) ≡ Taken (reads n octets) =
-        framed_answered open_reader.reader n octets (inside form n octets) (
-          headed form n octets,
-          open_headed form n octets (numbered p),
-          escapes_stuffed form.map (checked (headed form n octets)),
-          omega (arith, length_sent form n octets, few),
-        ) in
+    framed_answered open_reader.reader n octets (inside form n octets) (
+      headed form n octets,
+      open_headed form n octets (numbered p),
+      escapes_stuffed form.map (checked (headed form n octets)),
+      omega (arith, length_sent form n octets, few),
+    ) in
     ap (λ s. s.left.frame) (feed_enc open_reader form n octets refl ∙ ap (λ v. ends_by open_reader v (length (enc form n octets))) taken)
 
 -- a frame isn't shorter than what it carries

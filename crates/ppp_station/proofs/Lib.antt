@@ -1,8 +1,9 @@
-mod FrameLemmas
+pub mod FrameLemmas
 mod ListLemmas
-mod OrdersLemmas
-mod SignalLemmas
-mod StationLemmas
+pub mod OrdersLemmas
+pub mod PhaseLemmas
+pub mod SignalLemmas
+pub mod StationLemmas
 mod StationOutLemmas
 mod StepsLemmas
-mod WovenLemmas
+pub mod WovenLemmas

@@ -1,5 +1,5 @@
 -- Lists that a loop walks.
-use Rattle.std.proofs.Common.{◌≡◌, zero, suc, ℕ, ◌≤◌, List, [], ◌∷◌, drop, length, Some, slice_get, refl, arith}
+use Rattle.std.proofs.Common.{◌≡◌, zero, suc, ℕ, List, [], ◌∷◌, drop, Some, slice_get}
 
 -- what is left at a place begins with what stands there
 pub drop-get : {X : Type 0} (xs : List X) (i : ℕ) (x : X) → slice_get xs i ≡ Some x → drop i xs ≡ x ∷ drop (suc i) xs

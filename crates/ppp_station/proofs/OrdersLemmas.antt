@@ -1,6 +1,6 @@
 -- What a step of a link is to each of its automata.
 use Rattle.std.proofs.Common.{◌≡◌, ℕ, ◌+◌, ◌%◌, ◌≤◌, Bool, true, false, if◌then◌else◌, List, [], ◌∷◌, ◌++◌, length, refl, sym, ap, ◌∙◌, append_assoc, append-nil, arith}
-use Rattle.std.specs.Prelude.{◌==◌, ◌||◌, Option, Some, None, option_map}
+use Rattle.std.specs.Prelude.{◌==◌, ◌||◌, Option, Some, None}
 use Rattle.std.specs.List.{AllByRecursion, flat_map}
 use Rattle.std.proofs.lemmas.Grind.{flat_map-append}
 use Rattle.std.proofs.lemmas.Iterator.Adapters.{option_map_id}
@@ -19,12 +19,12 @@ use Rattle.ppp_frame.specs.Frame.{enc}
 use Rattle.ppp_frame.specs.Header.{Read, reads}
 use Rattle.ppp_link.specs.Automata.{Automata, all_changed, auto_at, cap_of, changed, form_for, whole_form, with_cap}
 use Rattle.ppp_link.specs.Link.{Fed, Link, event_did, fed_with, read_by}
-use Rattle.ppp_link.specs.LinkOut.{Entry, Push, LcpUp, LcpDown, Finished, NetUp, NetDown, Payload}
+use Rattle.ppp_link.specs.LinkOut.{Entry, Push, Payload}
 use Rattle.ppp_link.specs.LinkTables.{LinkTables, table_of}
 use Rattle.ppp_link.specs.Proto.{nets}
-use Rattle.ppp_link.specs.Steps.{Did, Given, Event, Packet, after, and_tells, auto_given, begins, does, does_rejected, each_does, hears, hears_as, hears_other, hears_read, is_payload, reject_packet, rejected_if, rejected_in, rejects, settled_after, signal_told, takes, there, told_all, told_by, told_if, told_one}
+use Rattle.ppp_link.specs.Steps.{Did, Given, Event, Packet, after, and_tells, auto_given, begins, does, does_rejected, each_does, hears, hears_as, hears_other, hears_read, is_payload, reject_packet, rejected_if, rejected_in, rejects, settled_after, signal_told, takes, there, told_all, told_by, told_if}
 use Rattle.ppp_link.specs.declared.link_out.TheConstants.{MOST_PUSH}
-use Rattle.ppp_station.specs.Orders.{Obeyed, Order, SetsCap, auto_by, caps_after, is_same, obeys, obeys_all, of_frame, of_frame_for, of_given, of_link, of_other, of_packet, of_read, of_rejected, of_rejected_there, of_run, order_of, own_order, packet_if, packets_in, read_in, rejects_as, sent_by, sent_one}
+use Rattle.ppp_station.specs.Orders.{Order, SetsCap, auto_by, caps_after, is_same, obeys, obeys_all, of_frame, of_frame_for, of_given, of_link, of_other, of_packet, of_read, of_rejected, of_rejected_there, of_run, order_of, own_order, packet_if, packets_in, read_in, rejects_as, sent_by}
 use Rattle.ppp_station.specs.Steps.{Happening, LineUp, LineDown, Opens, Closes, TimesOut, Takes, link_does}
 use Rattle.ppp_station.proofs.FrameLemmas.{control-read, enc-longer}
 
@@ -133,7 +133,7 @@ caps-send t p word Osi k o = (no-orders t p word o).1
 caps-send t p word Mpls k o = (no-orders t p word o).1
 caps-send t p word Bacp k o = (no-orders t p word o).1
 
-given-auto : (p : Proto) (t : LinkTables) (word : ℕ) (q : Proto) (given : Given) (k : Automata) →
+pub given-auto : (p : Proto) (t : LinkTables) (word : ℕ) (q : Proto) (given : Given) (k : Automata) →
     auto_at (after t q given word k) p ≡ auto_by t p word (of_given p t word q given k) (auto_at k p)
 given-auto p t word q given k =
     let own = changed k q (auto_given (table_of t q) given word) in
@@ -302,8 +302,8 @@ behind p t word os more a b c one two =
           ∙ ap (λ xs. xs ++ sent_by t p word more (auto_at b.automata p)) (one.sent (two.short short))
           ∙ append_assoc (link_packets p a.out) (sent_by t p word os first) (sent_by t p word more (auto_at b.automata p))
           ∙ ap (λ xs. link_packets p a.out ++ xs) (
-            ap (λ o. sent_by t p word os first ++ sent_by t p word more o) one.auto
-            ∙ sym (sent_by-append t p word os more first)
+          ap (λ o. sent_by t p word os first ++ sent_by t p word more o) one.auto
+          ∙ sym (sent_by-append t p word os more first)
           );
     }
 
@@ -372,14 +372,13 @@ takes-tracks p t word q octets did =
     behind p t word _ _ did mid (rejected_if t rejected word mid) (given-tracks p t word q (Packet octets) did) (rejected-tracks p t word rejected mid)
 
 -- a Protocol-Reject that is sent
-reject-auto : (p : Proto) (k : Automata) (id : ℕ) → auto_at (record k { reject_id = id }) p ≡ auto_at k p
+pub reject-auto : (p : Proto) (k : Automata) (id : ℕ) → auto_at (record k { reject_id = id }) p ≡ auto_at k p
 reject-auto Lcp k id = refl
 reject-auto Ip k id = refl
 reject-auto Ipv6 k id = refl
 reject-auto Osi k id = refl
 reject-auto Mpls k id = refl
 reject-auto Bacp k id = refl
-
 
 rejects-auto : (p : Proto) (t : LinkTables) (word number : ℕ) (info : List ℕ) (k : Automata) →
     auto_at k p ≡ auto_by t p word (rejects_as p number info k) (auto_at k p)
@@ -415,9 +414,9 @@ rejects-tracks p t word number info did =
           let fits = enc-longer whole_form (proto_number Lcp) packet in
           flat_map-append (link_packet p) did.out (push ∷ [])
           ∙ ap (λ xs. link_packets p did.out ++ xs) (
-            append-nil (packet_if p (read_in (enc whole_form (proto_number Lcp) packet)))
-            ∙ ap (packet_if p) (control-read whole_form Lcp packet (omega (arith, few, fits)))
-            ∙ rejects-sent p t word number info k
+          append-nil (packet_if p (read_in (enc whole_form (proto_number Lcp) packet)))
+          ∙ ap (packet_if p) (control-read whole_form Lcp packet (omega (arith, few, fits)))
+          ∙ rejects-sent p t word number info k
           );
     }
 

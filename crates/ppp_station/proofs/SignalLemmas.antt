@@ -1,11 +1,11 @@
 -- What LCP's signals cause: a step of a link has packets of a network control protocol, or signals of LCP, but not both.
-use Rattle.std.proofs.Common.{◌≡◌, ℕ, Bool, true, false, if◌then◌else◌, List, [], ◌∷◌, ◌++◌, refl, sym, ap, ◌∙◌, append-nil, inl, inr}
+use Rattle.std.proofs.Common.{◌≡◌, ℕ, Bool, true, false, if◌then◌else◌, List, [], ◌∷◌, ◌++◌, refl, sym, ap, ◌∙◌, inl, inr}
 use Rattle.std.specs.Prelude.{◌⊎◌, ◌==◌, ◌||◌, Option, Some, None, map}
 use Rattle.std.specs.List.{flat_map}
 use Rattle.std.specs.Option.{option_to_list}
 use Rattle.std.proofs.lemmas.Grind.{flat_map-append}
 use Rattle.ppp_auto.specs.Auto.{Auto, is_opened}
-use Rattle.ppp_auto.specs.Automaton.{acts_on, after, does_row, effect_of, effects, entries_of, take_octets, take_read, tells_rejected}
+use Rattle.ppp_auto.specs.Automaton.{acts_on, after, does_row, effects, entries_of, take_read, tells_rejected}
 use Rattle.ppp_auto.specs.EventTable.{cell_of}
 use Rattle.ppp_auto.specs.Outbox.{Effect, Sends, Entry as Told, Send, Signal, entry_of}
 use Rattle.ppp_auto.specs.OptionTable.{Table}
@@ -13,26 +13,24 @@ use Rattle.ppp_auto.specs.Packet.{Packet, packet_of}
 use Rattle.ppp_auto.specs.Taken.{Taken, kind}
 use Rattle.ppp_auto.specs.declared.action.Action.{Action}
 use Rattle.ppp_auto.specs.declared.action.Action.TheVariants.{ThisLayerUp, ThisLayerDown, ThisLayerStarted, ThisLayerFinished, InitializeRestartCount, ZeroRestartCount, SendConfigureRequest, RepeatConfigureRequest, SendConfigureAck, SendConfigureNak, SendTerminateRequest, SendTerminateAck, SendCodeReject, SendEchoReply}
-use Rattle.ppp_auto.specs.declared.auto_event.AutoEvent.{AutoEvent}
 use Rattle.ppp_auto.specs.declared.auto_event.AutoEvent.TheVariants.{Up, Down, AdminOpen, AdminClose, Timeout, RejectedWell, RejectedBadly}
 use Rattle.ppp_auto.specs.declared.input.Input.{Input}
 use Rattle.ppp_auto.specs.declared.layer_signal.LayerSignal.{LayerSignal}
 use Rattle.ppp_auto.specs.declared.layer_signal.LayerSignal.TheVariants as signal
 use Rattle.ppp_frame.specs.Deframer.{feed_step}
 use Rattle.ppp_frame.specs.declared.form.Form.{Form}
-use Rattle.ppp_frame.specs.Frame.{enc}
 use Rattle.ppp_frame.specs.Header.{Read}
 use Rattle.ppp_packet.specs.Proto.{proto_number, proto_of}
 use Rattle.ppp_packet.specs.declared.proto.Proto.{Proto}
 use Rattle.ppp_packet.specs.declared.proto.Proto.TheVariants.{Lcp, Ip, Ipv6, Osi, Mpls, Bacp}
-use Rattle.ppp_link.specs.Automata.{Automata, auto_at, cap_of, form_for, whole_form}
-use Rattle.ppp_link.specs.Link.{Link, event_did, fed_with, read_by}
+use Rattle.ppp_link.specs.Automata.{Automata, auto_at, form_for}
+use Rattle.ppp_link.specs.Link.{Link, fed_with, read_by}
 use Rattle.ppp_link.specs.LinkOut.{Entry, Push, LcpUp, LcpDown, Finished, NetUp, NetDown, Payload}
 use Rattle.ppp_link.specs.LinkTables.{LinkTables, table_of}
-use Rattle.ppp_link.specs.Steps.{Did, Given, Event, Packet as Octets, after as link_after, begins, does, does_rejected, hears, hears_as, hears_other, hears_read, is_payload, reject_packet, rejected_if, rejected_in, rejects, signal_told, takes, there, told_all, told_by, told_if, told_one, and_tells}
-use Rattle.ppp_station.specs.Orders.{Order, caused, is_net, is_same, of_run, packets_in}
+use Rattle.ppp_link.specs.Steps.{Given, Event, Packet as Octets, after as link_after, begins, does, does_rejected, hears, hears_as, hears_other, hears_read, is_payload, rejected_if, rejected_in, rejects, signal_told, takes, there, told_all, told_by, told_if, and_tells}
+use Rattle.ppp_station.specs.Orders.{Order, caused, is_net, is_same, packets_in}
 use Rattle.ppp_station.specs.Steps.{Happening, LineUp, LineDown, Opens, Closes, TimesOut, Takes, link_does}
-use Rattle.ppp_station.proofs.OrdersLemmas.{AllShort, link_packet, link_packets, only_if, packets-told, same-proto, short-behind}
+use Rattle.ppp_station.proofs.OrdersLemmas.{AllShort, link_packets, only_if, packets-told, same-proto}
 
 -- ---- only a Protocol-Reject tells of a rejected protocol, and nothing else
 
@@ -99,7 +97,7 @@ abbrev pub IsParted : Proto → List Entry → Type 0
 IsParted p es = (link_packets p es ≡ []) ⊎ (all_caused p es ≡ [])
 
 -- LCP and BACP don't go Up and Down by signals
-uncaused : (p : Proto) (es : List Entry) → is_net p ≡ false → all_caused p es ≡ []
+pub uncaused : (p : Proto) (es : List Entry) → is_net p ≡ false → all_caused p es ≡ []
 uncaused p [] e = refl
 uncaused p (Push octets ∷ es) e = uncaused p es e
 uncaused p (LcpUp ∷ es) e = rw e (uncaused p es e)
@@ -138,7 +136,7 @@ signal-quiet p Bacp signal.Started e = refl
 signal-quiet p Bacp signal.Finished e = refl
 signal-quiet p Bacp (signal.ProtocolRejected n) e = refl
 
-told-quiet : (form : Form) (p q : Proto) (es : List Told) → is_same Lcp q ≡ false → all_caused p (told_all form q es) ≡ []
+pub told-quiet : (form : Form) (p q : Proto) (es : List Told) → is_same Lcp q ≡ false → all_caused p (told_all form q es) ≡ []
 told-quiet form p q [] e = refl
 told-quiet form p q (Send octets ∷ es) e = told-quiet form p q es e
 told-quiet form p q (Signal told ∷ es) e =

@@ -143,7 +143,7 @@ pub happen-is : (what : Happening) (l at word : ℕ) (links : List Link) (d old 
 happen-is what l at word links d old begun done told used begins entries at_is low high old_is fed none worked =
     let there : slice_get links (l - 1) ≡ Some old = ap (slice_get links) (sym at_is) ∙ slice_get-get_or links at d (omega (arith, at_is)) ∙ ap (λ (k : Link). Some k) (sym old_is) in
     let is : so_far done entries ≡ link_done what l old word =
-        worked ∙ ap (λ es. works l word told (so_far begun es)) none ∙ ap (λ (f : Fed). works l word f.out (record { link = f.link; out = [] })) fed in
+    worked ∙ ap (λ es. works l word told (so_far begun es)) none ∙ ap (λ (f : Fed). works l word f.out (record { link = f.link; out = [] })) fed in
     let step = ap (stepped_by what l links word) (sym there) in
     record {
       links = (λ i. set links (at_is i) (is i).link) ∙ sym (set-is links l (link_done what l old word).link low high) ∙ ap (λ (s : Stepped). s.links) step;

@@ -8,7 +8,7 @@ use Rattle.std.specs.List.{slice_get}
 use Rattle.std.specs.Option.{option_map}
 use Rattle.ppp_station.specs.declared.station_out.Slot.{Slot}
 use Rattle.ppp_station.specs.declared.station_out.Slot.TheVariants as kept
-use Rattle.ppp_station.specs.StationOut.{Entry, Push, Got, Hang, all_octets, octets_of, slot_seen, IsWithin, AreWithin}
+use Rattle.ppp_station.specs.StationOut.{Entry, Push, Got, Hang, all_octets, octets_of, slot_seen, AreShort, IsShortFrame, IsWithin, AreWithin}
 
 pub all_octets-append : (es more : List Entry) → all_octets (es ++ more) ≡ all_octets es + all_octets more
 all_octets-append [] more = omega arith
@@ -45,6 +45,10 @@ within-snoc : (octets : List ℕ) (slots : List Slot) (slot : Slot) → AreWithi
 within-snoc octets [] slot h k = (k, tt)
 within-snoc octets (x ∷ xs) slot h k = (h.0, within-snoc octets xs slot h.1 k)
 
+pub short-snoc : (es : List Entry) (e : Entry) → AreShort es → IsShortFrame e → AreShort (es ++ e ∷ [])
+short-snoc [] e all one = (one, tt)
+short-snoc (x ∷ xs) e all one = (all.0, short-snoc xs e all.1 one)
+
 -- one slot more, with octets of its own
 pub record Put (octets all : List ℕ) (slots all_slots : List Slot) (entry : Entry) : Type 0 where
   pub within : AreWithin all all_slots
@@ -55,7 +59,7 @@ put : (octets more all : List ℕ) (slots all_slots : List Slot) (slot : Slot) (
     AreWithin octets slots → IsWithin (octets ++ more) slot → slot_seen (octets ++ more) slot ≡ entry → Put octets all slots all_slots entry
 put octets more all slots all_slots slot entry a b h w e =
     let shown : map (slot_seen all) all_slots ≡ map (slot_seen octets) slots ++ entry ∷ [] =
-        rw (a, b) (map-append (slot_seen (octets ++ more)) slots (slot ∷ []) ∙ rw (all-seen octets more slots h, e) refl) in
+    rw (a, b) (map-append (slot_seen (octets ++ more)) slots (slot ∷ []) ∙ rw (all-seen octets more slots h, e) refl) in
     record {
       within = rw (a, b) (within-snoc (octets ++ more) slots slot (all-within octets more slots h) w);
       shown = shown;
@@ -87,7 +91,7 @@ pub put-hang : (octets : List ℕ) (slots all_slots : List Slot) (link : ℕ) �
     AreWithin octets slots → Put octets octets slots all_slots (Hang link)
 put-hang octets slots all_slots link b h =
     let shown : map (slot_seen octets) all_slots ≡ map (slot_seen octets) slots ++ Hang link ∷ [] =
-        rw b (map-append (slot_seen octets) slots (kept.Hang link ∷ [])) in
+    rw b (map-append (slot_seen octets) slots (kept.Hang link ∷ [])) in
     record {
       within = rw b (within-snoc octets slots (kept.Hang link) h tt);
       shown = shown;

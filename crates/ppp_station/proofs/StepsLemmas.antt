@@ -1,5 +1,5 @@
 -- Entries of a link, one after another.
-use Rattle.std.proofs.Common.{◌≡◌, ℕ, suc, ◌+◌, ◌≤◌, List, [], ◌∷◌, ◌++◌, drop, length, Some, slice_get, refl, sym, ap, ◌∙◌, append_assoc, arith}
+use Rattle.std.proofs.Common.{◌≡◌, ℕ, suc, ◌+◌, ◌≤◌, List, [], ◌∷◌, ◌++◌, drop, length, Some, slice_get, ◌∙◌, append_assoc, arith}
 use Rattle.ppp_link.specs.LinkOut.{Entry as Told}
 use Rattle.ppp_link.specs.declared.link_out.TheConstants.{MOST_PUSH}
 use Rattle.ppp_station.specs.StationOut.{Entry, Push, all_octets}

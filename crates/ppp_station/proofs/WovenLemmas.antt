@@ -1,7 +1,6 @@
 -- The entries of a link's step, worked off in order, as one of its automata sees them.
-use Rattle.std.proofs.Common.{◌≡◌, ℕ, Bool, true, false, if◌then◌else◌, List, [], ◌∷◌, ◌++◌, length, ◌≤◌, refl, sym, ap, subst, ◌∙◌, append_assoc, append-nil, inl, inr}
-use Rattle.std.specs.Prelude.{◌⊎◌, ◌==◌, Option, Some, None}
-use Rattle.std.specs.List.{AllByRecursion, flat_map}
+use Rattle.std.proofs.Common.{◌≡◌, ℕ, Bool, true, false, if◌then◌else◌, List, [], ◌∷◌, ◌++◌, refl, sym, ap, subst, ◌∙◌, append_assoc, append-nil, inl, inr}
+use Rattle.std.specs.Prelude.{Option, None}
 use Rattle.std.proofs.lemmas.Grind.{flat_map-append}
 use Rattle.std.proofs.lemmas.Bool.{eq-eqb}
 use Rattle.ppp_auto.specs.Auto.{Auto}
@@ -14,10 +13,10 @@ use Rattle.ppp_link.specs.LinkOut.{Entry as LinkTold}
 use Rattle.ppp_link.specs.LinkOut as told
 use Rattle.ppp_link.specs.LinkTables.{LinkTables}
 use Rattle.ppp_link.specs.Steps.{Did, begins}
-use Rattle.ppp_station.specs.Orders.{AreShort, Order, auto_by, caused, of_link, of_run, orders, packet_of, packets_of, sent_by}
-use Rattle.ppp_station.specs.StationOut.{Entry, Push, Got, Hang}
-use Rattle.ppp_station.specs.Steps.{Done, Happening, all_plain, and_tells, hands_up, is_opened_at, link_does, link_done, opener_of, plain, runs, works, works_one}
-use Rattle.ppp_station.proofs.OrdersLemmas.{AllShort, IsShortPush, LinkTracks, Tracks, link_packet, link_packets, auto_by-append, link-tracks, no-orders, run-tracks, sent_by-append}
+use Rattle.ppp_station.specs.Orders.{Order, auto_by, caused, of_link, of_run, orders, packet_of, packets_of, sent_by}
+use Rattle.ppp_station.specs.StationOut.{AreShort, Entry, Push, Got, Hang}
+use Rattle.ppp_station.specs.Steps.{Done, Happening, all_plain, and_tells, is_opened_at, link_does, link_done, opener_of, runs, works, works_one}
+use Rattle.ppp_station.proofs.OrdersLemmas.{AllShort, IsShortPush, Tracks, link_packet, link_packets, auto_by-append, link-tracks, no-orders, run-tracks, sent_by-append}
 use Rattle.ppp_station.proofs.SignalLemmas.{IsParted, all_caused, link-parted}
 
 -- ---- lists
@@ -149,7 +148,7 @@ works-follows p l word (e ∷ es) done =
     let one = one-follows p l word e done in
     let own = works-follows p l word es mid in
     let rest : Follows p l t word (all_caused p es) (woven p t word es (auto_at mid.link.automata p)) mid (works l word es mid) =
-        subst (λ t. Follows p l t word (all_caused p es) (woven p t word es (auto_at mid.link.automata p)) mid (works l word es mid)) one.tables own in
+    subst (λ t. Follows p l t word (all_caused p es) (woven p t word es (auto_at mid.link.automata p)) mid (works l word es mid)) one.tables own in
     record {
       tables = rest.tables ∙ one.tables;
       auto = rest.auto ∙ ap (auto_by t p word (all_caused p es)) one.auto ∙ sym (auto_by-append t p word (caused p e) (all_caused p es) o);

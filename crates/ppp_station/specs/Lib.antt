@@ -1,4 +1,5 @@
 pub mod Orders
+pub mod Phases
 pub mod Station
 pub mod StationOut
 pub mod Steps

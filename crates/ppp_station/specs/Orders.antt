@@ -1,6 +1,6 @@
 -- What an event of a station is to the automaton of one protocol on one link: orders, in the words of the laws on two ends.
-use Rattle.std.specs.Prelude.{ℕ, ◌≤◌, Bool, true, false, ◌==◌, ◌||◌, if◌then◌else◌, List, [], ◌∷◌, ◌++◌, length, Option, Some, None, option_map}
-use Rattle.std.specs.List.{AllByRecursion, flat_map}
+use Rattle.std.specs.Prelude.{ℕ, Bool, true, false, ◌==◌, ◌||◌, if◌then◌else◌, List, [], ◌∷◌, ◌++◌, Option, Some, None, option_map}
+use Rattle.std.specs.List.{flat_map}
 use Rattle.ppp_packet.specs.Proto.{proto_number, proto_of}
 use Rattle.ppp_packet.specs.declared.proto.Proto.{Proto}
 use Rattle.ppp_packet.specs.declared.proto.Proto.TheVariants.{Lcp, Ip, Ipv6, Osi, Mpls, Bacp}
@@ -13,14 +13,13 @@ use Rattle.ppp_auto.specs.declared.auto_event.AutoEvent.TheVariants.{Up, Down, A
 use Rattle.ppp_frame.specs.Deframer.{DeframerState, feed_step}
 use Rattle.ppp_frame.specs.Header.{Read}
 use Rattle.ppp_frame.specs.Standing.{fresh}
-use Rattle.ppp_link.specs.Automata.{Automata, auto_at, cap_of, with_cap}
+use Rattle.ppp_link.specs.Automata.{Automata, cap_of, with_cap}
 use Rattle.ppp_link.specs.Link.{Link, read_by}
 use Rattle.ppp_link.specs.LinkOut.{Entry as LinkTold}
 use Rattle.ppp_link.specs.LinkOut as told
 use Rattle.ppp_link.specs.LinkTables.{LinkTables, table_of}
 use Rattle.ppp_link.specs.Steps.{Given, Event, Packet, after, is_payload, reject_packet, rejected_in, there, told_by}
 use Rattle.ppp_link.specs.declared.link.TheConstants.{MOST_FRAME}
-use Rattle.ppp_link.specs.declared.link_out.TheConstants.{MOST_PUSH}
 use Rattle.ppp_station.specs.StationOut.{Entry, Push, Got, Hang}
 use Rattle.ppp_station.specs.Steps.{Happening, LineUp, LineDown, Opens, Closes, TimesOut, Takes, link_does}
 
@@ -184,11 +183,3 @@ packet_of p l (Hang link) = []
 
 abbrev pub packets_of : Proto → ℕ → List Entry → List (List ℕ)
 packets_of p l es = flat_map (packet_of p l) es
-
--- each frame that is sent has no more octets than the longest
-abbrev pub IsShortFrame : Entry → Type 0
-IsShortFrame (Push link octets) = length octets ≤ MOST_PUSH
-IsShortFrame entry = Unit {0}
-
-abbrev pub AreShort : List Entry → Type 0
-AreShort es = AllByRecursion IsShortFrame es

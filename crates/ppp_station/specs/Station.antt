@@ -1,6 +1,5 @@
 -- One whole end of single links.
 use Rattle.std.specs.Prelude.{◌≡◌, ℕ, zero, suc, ◌+◌, ◌-◌, ◌≤◌, List, [], ◌∷◌, ◌++◌, length, map, Option, Some, None, slice_get}
-use Rattle.std.specs.List.{AllByRecursion}
 use Rattle.ppp_conf.specs.EndConfig.{EndSettings}
 use Rattle.ppp_packet.specs.declared.proto.Proto.{Proto}
 use Rattle.ppp_packet.specs.declared.proto.Proto.TheVariants.{Bacp}
@@ -10,7 +9,7 @@ use Rattle.ppp_link.specs.LinkSettings.{LinkSettings, settings_of}
 use Rattle.ppp_link.specs.LinkTables.{LinkTables, tables_seen}
 use Rattle.ppp_link.specs.Proto.{nets}
 use Rattle.ppp_station.specs.StationOut.{Out}
-use Rattle.ppp_station.specs.Steps.{Done, Happening, LineUp, LineDown, Opens, Closes, TimesOut, Takes, link_does, link_done}
+use Rattle.ppp_station.specs.Steps.{Happening, LineUp, LineDown, Opens, Closes, TimesOut, Takes, link_does, link_done, IsUsed}
 use Rattle.ppp_station.specs.declared.station_event.StationEvent.{StationEvent}
 use Rattle.ppp_station.specs.declared.station_event.StationEvent.TheVariants as event
 
@@ -76,6 +75,11 @@ IsOfLinks (event.AdminClose l p) links = IsOfLink links l
 IsOfLinks (event.Timeout l p) links = IsOfLink links l
 IsOfLinks (event.Bytes l octets) links = IsOfLink links l
 IsOfLinks event.Reset links = Unit {0}
+
+-- what an event used of the octets that it brought, and 0 where it brought none
+abbrev pub IsUsedOf : StationEvent → ℕ → Type 0
+IsUsedOf (event.Bytes l octets) used = IsUsed (Takes octets.now) used
+IsUsedOf ev used = used ≡ 0
 
 -- what its links negotiate, and the octets that they keep of unfinished frames
 abbrev pub settings_in : List Link → List LinkSettings

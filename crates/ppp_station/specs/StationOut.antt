@@ -1,5 +1,7 @@
 -- What an event of a station sends and tells, and the list that holds it.
 use Rattle.std.specs.Prelude.{ℕ, ◌+◌, ◌-◌, ◌≤◌, List, [], ◌∷◌, length, map, take, drop, Option, None, vec_len, vec_capacity}
+use Rattle.std.specs.List.{AllByRecursion}
+use Rattle.ppp_link.specs.declared.link_out.TheConstants.{MOST_PUSH}
 use Rattle.ppp_station.specs.declared.station_out.StationEntry.{StationEntry}
 use Rattle.ppp_station.specs.declared.station_out.StationEntry.TheVariants as lent
 use Rattle.ppp_station.specs.declared.station_out.StationOut.TheInside.{Inside}
@@ -45,6 +47,14 @@ abbrev pub all_octets : List Entry → ℕ
 all_octets [] = 0
 all_octets (e ∷ es) = octets_of e + all_octets es
 
+-- each frame that is sent has no more octets than the longest
+abbrev pub IsShortFrame : Entry → Type 0
+IsShortFrame (Push link octets) = length octets ≤ MOST_PUSH
+IsShortFrame entry = Unit {0}
+
+abbrev pub AreShort : List Entry → Type 0
+AreShort es = AllByRecursion IsShortFrame es
+
 -- what a slot points to lies within the octets
 abbrev pub IsWithin : List ℕ → Slot → Type 0
 IsWithin octets (kept.Push link start end) = (start ≤ end) × (end ≤ length octets)
@@ -55,9 +65,10 @@ abbrev pub AreWithin : List ℕ → List Slot → Type 0
 AreWithin octets [] = Unit {0}
 AreWithin octets (slot ∷ slots) = IsWithin octets slot × AreWithin octets slots
 
--- The octets are those of the entries, and room was taken for all that comes.
+-- The octets are those of the entries, no frame is longer than the longest, and room was taken for all that comes.
 pub record IsStationOut (b : Inside) : Type 0 where
   pub within : AreWithin b.octets.items b.slots.items
   pub sizes : vec_len b.octets ≤ all_octets (map (slot_seen b.octets.items) b.slots.items)
+  pub short : AreShort (map (slot_seen b.octets.items) b.slots.items)
   pub room : MOST_OCTETS ≤ vec_capacity b.octets
   pub slots : MOST_ENTRIES ≤ vec_capacity b.slots

@@ -1,6 +1,6 @@
 -- What a station does on one link, entry by entry: what a signal causes comes in its place, before the next entry
 -- (RFC 1661 section 3).
-use Rattle.std.specs.Prelude.{ℕ, Bool, true, false, ◌==◌, if◌then◌else◌, List, [], ◌∷◌, ◌++◌, Option, Some, None}
+use Rattle.std.specs.Prelude.{◌≡◌, ◌<◌, ◌≤◌, ℕ, Bool, true, false, ◌==◌, if◌then◌else◌, List, [], ◌∷◌, ◌++◌, length, Option, Some, None}
 use Rattle.std.specs.List.{flat_map}
 use Rattle.ppp_auto.specs.Auto.{Auto, is_opened}
 use Rattle.ppp_packet.specs.declared.proto.Proto.{Proto}
@@ -107,6 +107,11 @@ link_does (Opens p) k word = let did = event_did k p AdminOpen word in record { 
 link_does (Closes p) k word = let did = event_did k p AdminClose word in record { link = link_with k did; out = did.out; used = 0 }
 link_does (TimesOut p) k word = let did = event_did k p Timeout word in record { link = link_with k did; out = did.out; used = 0 }
 link_does (Takes octets) k word = fed_with k octets word
+
+-- Of octets that come one is used at least, where there is one, and no more than came.
+abbrev pub IsUsed : Happening → ℕ → Type 0
+IsUsed (Takes octets) used = (used ≤ length octets) × (0 < length octets → 0 < used)
+IsUsed what used = used ≡ 0
 
 -- and what follows from it
 abbrev pub link_done : Happening → ℕ → Link → ℕ → Done

@@ -2,7 +2,7 @@
 
 ghost use Rattle.std.specs.Prelude.{◌≡◌, ◌≤◌, length};
 ghost use Rattle.ppp_link.specs.declared.link.TheConstants.{MOST_AFTER_FRAME};
-ghost use Rattle.ppp_station.specs.Steps.{fed_seen, happening_seen, link_does};
+ghost use Rattle.ppp_station.specs.Steps.{fed_seen, happening_seen, link_does, IsUsed};
 
 use ppp_link::{Link, LinkOut};
 use ppp_packet::Proto;
@@ -21,6 +21,7 @@ pub(crate) enum Happening<'a> {
 /// Something happens to a link, which answers how many octets it used.
 pub(crate) fn happen(link: &mut Link, what: Happening<'_>, word: u64, out: &mut LinkOut) -> usize
     ensures did { fed_seen link.new out.new result ≡ link_does (happening_seen what.entry) link.old word }
+    ensures used { IsUsed (happening_seen what.entry) result }
     ensures few { length out.new ≤ MOST_AFTER_FRAME }
 {
     match what {

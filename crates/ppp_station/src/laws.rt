@@ -1,11 +1,14 @@
-//! What an event of a station is to each of its automata.
+//! What an event of a station is to each of its automata, and when these are Up.
 
 ghost use Rattle.std.specs.Prelude.{◌≡◌, ◌≢◌, ◌-◌, ◌≤◌, ℕ, List, Some, slice_get};
 ghost use Rattle.ppp_link.specs.Automata.{auto_at};
 ghost use Rattle.ppp_link.specs.Link.{Link};
+ghost use Rattle.ppp_link.specs.LinkTables.{LinkTables};
 ghost use Rattle.ppp_packet.specs.declared.proto.Proto.{Proto};
-ghost use Rattle.ppp_station.specs.Orders.{AreShort, auto_by, orders, packets_of, sent_by};
-ghost use Rattle.ppp_station.specs.Station.{on_link};
+ghost use Rattle.ppp_station.specs.Orders.{auto_by, orders, packets_of, sent_by};
+ghost use Rattle.ppp_station.specs.Phases.{IsPhased};
+ghost use Rattle.ppp_station.specs.Station.{link_ready, on_link};
+ghost use Rattle.ppp_station.specs.StationOut.{AreShort};
 ghost use Rattle.ppp_station.specs.Steps.{Happening, link_done};
 
 /// Does nothing. Its clauses are laws on what an event does to the automaton of each protocol on its link, where that is
@@ -36,4 +39,15 @@ pub fn alone()
     ensures others { (what : Happening) (l m word : ℕ) (links : List Link)
         → 1 ≤ m → m ≢ l
         → slice_get (on_link what l links word).links (m - 1) ≡ slice_get links (m - 1) }
+{}
+
+/// Does nothing. Its clauses are laws on when the control protocols of a link above LCP are Up (RFC 1661 section 3): one of
+/// the network exactly while LCP is Opened, and BACP never.
+///
+/// - `begun`: so it is on a link as a station begins with it.
+/// - `kept`: so it stays, whatever happens to the link.
+pub fn phases()
+    ensures begun { (t : LinkTables) → IsPhased (link_ready t) }
+    ensures kept { (what : Happening) (l word : ℕ) (k : Link)
+        → IsPhased k → IsPhased (link_done what l k word).link }
 {}

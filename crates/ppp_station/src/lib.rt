@@ -15,10 +15,13 @@ mod station;
 mod station_event;
 mod station_out;
 mod steps;
-#[cfg(test)]
-mod tests;
 
 pub use ppp_memory::Memory;
 pub use station::{MOST_LINKS, Station};
 pub use station_event::StationEvent;
 pub use station_out::{MOST_ENTRIES, MOST_OCTETS, StationEntry, StationOut};
+
+#[cfg(test)]
+mod pair;
+#[cfg(test)]
+mod tests;

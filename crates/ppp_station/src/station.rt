@@ -5,8 +5,9 @@ ghost use Rattle.std.specs.List.{AllByRecursion};
 ghost use Rattle.ppp_conf.specs.EndConfig.{end_seen};
 ghost use Rattle.ppp_link.specs.LinkSettings.{settings_of};
 ghost use Rattle.ppp_link.specs.LinkTables.{tables_seen};
-ghost use Rattle.ppp_station.specs.Station.{all_settings, held_in, link_ready, on_link, opens_all, settings_in, station_does, IsOfLink, IsOfLinks, IsReady};
-ghost use Rattle.ppp_station.specs.Steps.{happening_seen};
+ghost use Rattle.ppp_station.specs.Station.{all_settings, held_in, link_ready, on_link, opens_all, settings_in, station_does, IsOfLink, IsOfLinks, IsReady, IsUsedOf};
+ghost use Rattle.ppp_station.specs.StationOut.{AreShort};
+ghost use Rattle.ppp_station.specs.Steps.{happening_seen, IsUsed};
 ghost use Rattle.ppp_station.specs.declared.station.TheConstants.{CONTROLS, MOST_LINKS};
 
 use crate::happening::{Happening, happen};
@@ -24,13 +25,7 @@ use std::marker::Model;
 pub const MOST_LINKS: u8 = 16;
 
 /// The control protocols above LCP, in order.
-const CONTROLS: [Proto; 5] = [
-    Proto::Ip,
-    Proto::Ipv6,
-    Proto::Osi,
-    Proto::Mpls,
-    Proto::Bacp,
-];
+const CONTROLS: [Proto; 5] = [Proto::Ip, Proto::Ipv6, Proto::Osi, Proto::Mpls, Proto::Bacp];
 
 /// One whole end. It is seen as the list of its links.
 #[derive(Drop)]
@@ -75,6 +70,8 @@ impl Station {
         requires { IsOfLinks ev (length self.old) }
         ensures links { self.new ≡ (station_does ev.entry self.old word).links }
         ensures out { out.new ≡ (station_does ev.entry self.old word).out }
+        ensures short { AreShort out.new.entries }
+        ensures used { IsUsedOf ev.entry out.new.used }
     {
         match ev {
             StationEvent::Up(link) => self.happens(link, Happening::LineUp, word, out),
@@ -130,6 +127,8 @@ impl Station {
         requires { IsOfLink (length self.old) number }
         ensures links { self.new ≡ (on_link (happening_seen what.entry) number self.old word).links }
         ensures out { out.new ≡ (on_link (happening_seen what.entry) number self.old word).out }
+        ensures short { AreShort out.new.entries }
+        ensures used { IsUsed (happening_seen what.entry) out.new.used }
     {
         out.clear();
         let link = &mut self.links[usize::from(number) - 1];

@@ -1,7 +1,8 @@
 //! What an event of a station sends and tells.
 
 ghost use Rattle.std.specs.Prelude.{◌≡◌, ◌+◌, ◌-◌, ◌<◌, ◌≤◌, [], ◌∷◌, ◌++◌, length, vec_len, vec_capacity, map, take, drop, IfOk, None, Some, slice_get};
-ghost use Rattle.ppp_station.specs.StationOut.{all_octets, entry_seen, slot_seen, AreWithin, IsWithin};
+ghost use Rattle.ppp_station.specs.StationOut.{all_octets, entry_seen, slot_seen, AreShort, AreWithin, IsWithin};
+ghost use Rattle.ppp_link.specs.declared.link_out.TheConstants.{MOST_PUSH};
 ghost use Rattle.ppp_station.specs.declared.station_out.TheConstants.{MOST_ENTRIES, MOST_OCTETS};
 
 use ppp_memory::Memory;
@@ -98,7 +99,7 @@ impl StationOut {
         lend(self.octets.as_slice(), self.slots.as_slice(), i)
     }
 
-    /// How many octets the event used that brought octets, and 0 for another event.
+    /// How many octets the event used that brought octets, at least one where there is one; 0 for another event.
     pub fn used(&self) -> usize
         ensures { result ≡ self.now.used }
     {
@@ -116,7 +117,8 @@ impl StationOut {
 
     /// Notes how many octets were used.
     pub(crate) fn set_used(&mut self, used: usize)
-        ensures { self.new ≡ record self.old { used = used } }
+        ensures out { self.new ≡ record self.old { used = used } }
+        ensures short { AreShort self.new.entries }
     {
         self.used = used;
     }
@@ -125,6 +127,7 @@ impl StationOut {
     pub(crate) fn push(&mut self, link: u8, octets: &[u8])
         requires few { length self.old.entries < MOST_ENTRIES }
         requires room { all_octets self.old.entries + length octets.now ≤ MOST_OCTETS }
+        requires short { length octets.now ≤ MOST_PUSH }
         ensures out { self.new ≡ record self.old { entries = self.old.entries ++ Push link octets.now ∷ [] } }
         ensures octets { all_octets self.new.entries ≡ all_octets self.old.entries + length octets.now }
     {
@@ -142,7 +145,10 @@ impl StationOut {
     {
         let start = self.octets.len();
         put_octets(&mut self.octets, octets);
-        put_slot(&mut self.slots, Slot::Got(protocol, start, self.octets.len()));
+        put_slot(
+            &mut self.slots,
+            Slot::Got(protocol, start, self.octets.len()),
+        );
     }
 
     /// Puts at the end that LCP is done with a line.

@@ -73,14 +73,7 @@ fn work_one(
 
 /// The control protocols above LCP go Up or Down.
 #[tactic(auto, unfolding(crate::specs::Steps::runs))]
-fn run(
-    link: &mut Link,
-    number: u8,
-    on: bool,
-    word: u64,
-    nets: &mut LinkOut,
-    out: &mut StationOut,
-)
+fn run(link: &mut Link, number: u8, on: bool, word: u64, nets: &mut LinkOut, out: &mut StationOut)
     requires few { length out.old.entries + MOST_AFTER_RUN ≤ MOST_ENTRIES }
     requires room { all_octets out.old.entries + MOST_CAUSED ≤ MOST_OCTETS }
     ensures done { so_far link.new out.new.entries ≡ runs on number word (so_far link.old out.old.entries) }

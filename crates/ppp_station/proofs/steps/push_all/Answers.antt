@@ -1,4 +1,4 @@
-use Rattle.std.proofs.Common.{add-one, ap, arith, ◌∙◌}
+use Rattle.std.proofs.Common.{add-one, arith, ◌∙◌}
 use Rattle.ppp_station.proofs.StepsLemmas.{plain-next}
 use Rattle.ppp_station.proofs.steps.push_all.Goals as goal
 

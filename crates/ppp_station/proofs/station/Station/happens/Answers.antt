@@ -16,4 +16,4 @@ pub returns-clause-links : goal.returns-clause-links
 returns-clause-links c = (stepped c).links ∙ ap (λ ks. (on_link (happening_seen c.args.what) c.args.number ks c.args.word).links) c.self.view_is
 
 pub returns-clause-out : goal.returns-clause-out
-returns-clause-out c = c.set_used.ensures ∙ (stepped c).out ∙ ap (λ ks. (on_link (happening_seen c.args.what) c.args.number ks c.args.word).out) c.self.view_is
+returns-clause-out c = c.set_used.ensures.out ∙ (stepped c).out ∙ ap (λ ks. (on_link (happening_seen c.args.what) c.args.number ks c.args.word).out) c.self.view_is

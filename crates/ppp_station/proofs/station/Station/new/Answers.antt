@@ -11,9 +11,9 @@ loop-i-preserved c =
       count = omega (arith, ap length put, length-append c.loop-i.links.items (c.in_ok-link.link ∷ []), c.loop-i.invariant.count);
       ready = rw put (ready-snoc c.loop-i.links.items c.in_ok-link.link c.loop-i.invariant.ready c.in_ok-link.ensures.ready);
       settings = rw add-one (
-        ap settings_in put
-        ∙ settings-put c.loop-i.links.items c.in_ok-link.link c.loop-i.i (end_seen c.args.config.now) c.loop-i.invariant.settings c.in_ok-link.ensures.settings
-      );
+          ap settings_in put
+          ∙ settings-put c.loop-i.links.items c.in_ok-link.link c.loop-i.i (end_seen c.args.config.now) c.loop-i.invariant.settings c.in_ok-link.ensures.settings
+          );
     }
 
 pub returns-clause-settings : goal.returns-clause-settings

@@ -1,4 +1,4 @@
-use Rattle.std.proofs.Common.{◌++◌, ◌∷◌, [], add-one, ap, arith, length, length-set, ◌∙◌}
+use Rattle.std.proofs.Common.{◌++◌, ◌∷◌, [], add-one, ap, arith, length-set, ◌∙◌}
 use Rattle.ppp_packet.specs.declared.proto.Proto.TheVariants.{Bacp}
 use Rattle.ppp_link.specs.Link.{Link, link_begun}
 use Rattle.ppp_link.specs.Proto.{nets}
@@ -12,7 +12,7 @@ loop-i-preserved c =
     record {
       same = length-set c.loop-i.self-inside.links.items c.loop-i.i c.open_all.new.link ∙ c.loop-i.invariant.same;
       left = rw add-one (
-        reset-next (λ (k : Link). link_ready k.tables) c.self.inside.links.items c.loop-i.self-inside.links.items c.loop-i.i _ c.open_all.new.link
-        (omega (arith, c.loop-i-test.true, c.loop-i.invariant.same, c.len-i-end.ensures, c.self.inside.links.ok.0)) c.loop-i.invariant.left ready
-      );
+          reset-next (λ (k : Link). link_ready k.tables) c.self.inside.links.items c.loop-i.self-inside.links.items c.loop-i.i _ c.open_all.new.link
+          (omega (arith, c.loop-i-test.true, c.loop-i.invariant.same, c.len-i-end.ensures, c.self.inside.links.ok.0)) c.loop-i.invariant.left ready
+          );
     }

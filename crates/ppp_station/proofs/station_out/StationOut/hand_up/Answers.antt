@@ -1,7 +1,7 @@
 use Rattle.std.specs.Prelude.{None}
-use Rattle.std.proofs.Common.{◌∙◌, ◌+◌, ◌++◌, ◌∷◌, [], List, length, ap, arith}
-use Rattle.ppp_station.specs.StationOut.{Entry, Out, Got, all_octets}
-use Rattle.ppp_station.proofs.StationOutLemmas.{put-got, Put}
+use Rattle.std.proofs.Common.{◌∙◌, ◌+◌, ◌++◌, ◌∷◌, [], length, ap, arith}
+use Rattle.ppp_station.specs.StationOut.{Out, Got, all_octets}
+use Rattle.ppp_station.proofs.StationOutLemmas.{put-got, short-snoc, Put}
 use Rattle.ppp_station.proofs.station_out.StationOut.hand_up.Goals as goal
 
 told : (c : goal.After-put_slot) → Put c.self.inside.octets.items c.put_octets.new.octets.items c.self.inside.slots.items c.put_slot.new.slots.items (Got None c.args.protocol c.args.octets.now)
@@ -13,6 +13,7 @@ pub invariant_of-self : goal.invariant_of-self
 invariant_of-self c = record {
   within = (told c).within;
   sizes = omega (arith, c.put_octets.ensures.size, (told c).sizes, c.self.invariant.sizes);
+  short = rw (told c).shown (short-snoc _ _ c.self.invariant.short tt);
   room = omega (arith, c.put_octets.ensures.capacity, c.self.invariant.room);
   slots = omega (arith, c.put_slot.ensures.capacity, c.self.invariant.slots);
 }

@@ -1,6 +1,6 @@
 use Rattle.std.proofs.Common.{ap, arith}
 use Rattle.ppp_station.specs.StationOut.{Hang, Out, all_octets}
-use Rattle.ppp_station.proofs.StationOutLemmas.{put-hang, Put}
+use Rattle.ppp_station.proofs.StationOutLemmas.{put-hang, short-snoc, Put}
 use Rattle.ppp_station.proofs.station_out.StationOut.hang.Goals as goal
 
 told : (c : goal.After-put_slot) → Put c.self.inside.octets.items c.self.inside.octets.items c.self.inside.slots.items c.put_slot.new.slots.items (Hang c.args.link)
@@ -10,6 +10,7 @@ pub invariant_of-self : goal.invariant_of-self
 invariant_of-self c = record {
   within = (told c).within;
   sizes = omega (arith, (told c).sizes, c.self.invariant.sizes);
+  short = rw (told c).shown (short-snoc _ _ c.self.invariant.short tt);
   room = c.self.invariant.room;
   slots = omega (arith, c.put_slot.ensures.capacity, c.self.invariant.slots);
 }

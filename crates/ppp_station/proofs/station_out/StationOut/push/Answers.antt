@@ -1,6 +1,6 @@
-use Rattle.std.proofs.Common.{◌∙◌, ◌+◌, ◌++◌, ◌∷◌, [], List, length, ap, arith}
-use Rattle.ppp_station.specs.StationOut.{Entry, Out, Push, all_octets}
-use Rattle.ppp_station.proofs.StationOutLemmas.{put-push, Put}
+use Rattle.std.proofs.Common.{◌∙◌, ◌+◌, ◌++◌, ◌∷◌, [], length, ap, arith}
+use Rattle.ppp_station.specs.StationOut.{Out, Push, all_octets}
+use Rattle.ppp_station.proofs.StationOutLemmas.{put-push, short-snoc, Put}
 use Rattle.ppp_station.proofs.station_out.StationOut.push.Goals as goal
 
 told : (c : goal.After-put_slot) → Put c.self.inside.octets.items c.put_octets.new.octets.items c.self.inside.slots.items c.put_slot.new.slots.items (Push c.args.link c.args.octets.now)
@@ -12,6 +12,7 @@ pub invariant_of-self : goal.invariant_of-self
 invariant_of-self c = record {
   within = (told c).within;
   sizes = omega (arith, c.put_octets.ensures.size, (told c).sizes, c.self.invariant.sizes);
+  short = rw (told c).shown (short-snoc _ _ c.self.invariant.short c.requires.short);
   room = omega (arith, c.put_octets.ensures.capacity, c.self.invariant.room);
   slots = omega (arith, c.put_slot.ensures.capacity, c.self.invariant.slots);
 }
