@@ -2,6 +2,7 @@ mod LedgerLemmas
 mod OrderLemmas
 mod PostLemmas
 mod ReadLemmas
+mod RebootLemmas
 mod SeatLemmas
 mod SentLemmas
 mod StepLemmas

@@ -128,7 +128,7 @@ loses-well place s well = record { settled = well.settled; incoming = sent-witho
 -- ---- among all links
 
 -- two numbers are the same or not
-same-or : (m l : ℕ) → (m ≡ l) ⊎ (m ≢ l)
+pub same-or : (m l : ℕ) → (m ≡ l) ⊎ (m ≢ l)
 same-or m l = by (m == l) refl
   where
     by : (b : Bool) → (m == l) ≡ b → (m ≡ l) ⊎ (m ≢ l)
@@ -160,7 +160,7 @@ at-others (suc (suc l)) (suc (suc m)) f (y ∷ ys) low other =
 entries-are : (what : Happening) (l word : ℕ) (links : List Link) (k : Link) → slice_get links (l - 1) ≡ Some k → (on_link what l links word).out.entries ≡ (link_done what l k word).out
 entries-are what l word links k is = ap (λ o. (stepped_by what l links word o).out.entries) is
 
-posted-own : (what : Happening) (l word mark : ℕ) (e : Ends) (s : Seat) → 1 ≤ l → SeatAt l e s →
+pub posted-own : (what : Happening) (l word mark : ℕ) (e : Ends) (s : Seat) → 1 ≤ l → SeatAt l e s →
     SeatAt l (posted mark (on_link what l e.own.links word) e) (seat_posted mark l (link_done what l s.link word) s)
 posted-own what l word mark e s low at =
     let es = (on_link what l e.own.links word).out.entries in
@@ -177,12 +177,17 @@ posted-own what l word mark e s low at =
 none-queued : (queue : List Frame) → length queue ≤ room → queued queue [] ≡ queue
 none-queued queue few = ap (take room) (append-nil queue) ∙ take_all room queue few
 
-posted-others : (what : Happening) (l m word mark : ℕ) (e : Ends) (s : Seat) (k : Link) → 1 ≤ m → m ≢ l → slice_get e.own.links (l - 1) ≡ Some k → length s.outgoing ≤ room → SeatAt m e s →
+-- nothing goes out on another link
+elsewhere-by : (what : Happening) (l m word : ℕ) (links : List Link) (o : Option Link) → m ≢ l → pushes_on m (stepped_by what l links word o).out.entries ≡ []
+elsewhere-by what l m word links None other = refl
+elsewhere-by what l m word links (Some k) other = none-elsewhere l m (link_done what l k word).out other (done-framed what l word k)
+
+pub posted-others : (what : Happening) (l m word mark : ℕ) (e : Ends) (s : Seat) → 1 ≤ m → m ≢ l → length s.outgoing ≤ room → SeatAt m e s →
     SeatAt m (posted mark (on_link what l e.own.links word) e) s
-posted-others what l m word mark e s k low other there few at =
+posted-others what l m word mark e s low other few at =
     let es = (on_link what l e.own.links word).out.entries in
     let one : 1 + (m - 1) ≡ m = omega arith in
-    let none : pushes_on (1 + (m - 1)) es ≡ [] = (λ i. pushes_on (one i) (entries-are what l word e.own.links k there i)) ∙ none-elsewhere l m (link_done what l k word).out other (done-framed what l word k) in
+    let none : pushes_on (1 + (m - 1)) es ≡ [] = ap (λ n. pushes_on n es) one ∙ elsewhere-by what l m word e.own.links (slice_get e.own.links (l - 1)) other in
     record {
       link = other-links what l m word e.own.links low other ∙ at.link;
       ledgers = noted-at 1 es e.own.ledgers (m - 1) ∙ (λ i. option_map (λ g. noted_frames g (none i)) (at.ledgers i));
@@ -229,7 +234,7 @@ happens-by sa sb p what l m word e s k a b low least there quiet short at well e
     subst (λ m. Came sa sb p m s a b (posted 0 (on_link what l e.own.links word) e)) (sym same)
     (moves sa sb p l s (seat_happens what l word s) a b _ (posted-own what l word 0 e s low here) (happens-well what l word s quiet few well) (happens-makes sa sb p what l word s a b quiet few end))
 happens-by sa sb p what l m word e s k a b low least there quiet short at well end (inr other) =
-    stays sa sb p m s a b _ (posted-others what l m word 0 e s k least other there well.few at) well end
+    stays sa sb p m s a b _ (posted-others what l m word 0 e s least other well.few at) well end
 
 pub happens-came : (sa sb : Setup) (p : Proto) (what : Happening) (l m word : ℕ) (e : Ends) (s : Seat) (k : Link) (a : Auto) (b : End) → 1 ≤ l → 1 ≤ m → slice_get e.own.links (l - 1) ≡ Some k →
     IsNoFrame what → AreShort (link_done what l k word).out → SeatAt m e s → IsWell s → IsEnd sa p s a → Came sa sb p m s a b (happens what l word e)
@@ -252,7 +257,7 @@ taking-by sa sb p l m word f rest e s k a b low least there front short at well 
     subst (λ m. Came sa sb p m s a b (posted f.mark (on_link (Takes f.octets) l e.own.links word) (record e { own = with_heard l word f rest (Some k) e.own }))) (sym same)
     (subst (λ k. Came sa sb p l s a b (posted f.mark (on_link (Takes f.octets) l e.own.links word) (record e { own = with_heard l word f rest (Some k) e.own }))) (sym link) came)
 taking-by sa sb p l m word f rest e s k a b low least there front short at well end (inr other) =
-    stays sa sb p m s a b _ (posted-others (Takes f.octets) l m word f.mark (record e { own = with_heard l word f rest (Some k) e.own }) s k least other there well.few (heard-others l m word f rest e s k least other at)) well end
+    stays sa sb p m s a b _ (posted-others (Takes f.octets) l m word f.mark (record e { own = with_heard l word f rest (Some k) e.own }) s least other well.few (heard-others l m word f rest e s k least other at)) well end
 
 front-by : (sa sb : Setup) (p : Proto) (l m word : ℕ) (e : Ends) (s : Seat) (k : Link) (a : Auto) (b : End) (o : Option (List Frame)) → slice_get e.own.incoming (l - 1) ≡ o → 1 ≤ l → 1 ≤ m → slice_get e.own.links (l - 1) ≡ Some k →
     ((f : Frame) (rest : List Frame) → o ≡ Some (f ∷ rest) → AreShort (link_done (Takes f.octets) l k word).out) → SeatAt m e s → IsWell s → IsEnd sa p s a →
