@@ -1,3 +1,4 @@
+mod KeptLemmas
 mod LedgerLemmas
 mod OrderLemmas
 mod PostLemmas

@@ -1,15 +1,11 @@
 -- An end that begins anew, as the two ends of each protocol see it.
 use Rattle.std.proofs.Common.{◌≡◌, ◌≢◌, ℕ, zero, suc, ◌+◌, ◌-◌, ◌<◌, ◌≤◌, Bool, true, false, if◌then◌else◌, List, [], ◌∷◌, ◌++◌, length, map, refl, sym, ap, subst, ◌∙◌, append-nil, inl, inr, length-take, take, drop, take-append-drop, arith}
-use Rattle.std.specs.Prelude.{◌⊎◌, ◌&&◌, ◌==◌, not, Option, Some, None, option_map, slice_get}
-use Rattle.std.specs.List.{AllByRecursion, flat_map}
+use Rattle.std.specs.Prelude.{◌⊎◌, ◌&&◌, not, Option, Some, None, option_map, slice_get}
 use Rattle.ppp_auto.specs.Auto.{Auto, begun, is_off, is_opened}
 use Rattle.ppp_auto.specs.Automaton.{after, command, does_row, effects, entries_of}
 use Rattle.ppp_auto.specs.EventTable.{cell_of}
 use Rattle.ppp_auto.specs.OptionTable.{Table}
-use Rattle.ppp_auto.specs.Outbox.{Effect}
-use Rattle.ppp_auto.specs.Packet.{Packet}
 use Rattle.ppp_auto.specs.Taken.{Taken, input_of, taken_as}
-use Rattle.ppp_auto.specs.declared.auto_event.AutoEvent.{AutoEvent}
 use Rattle.ppp_auto.specs.declared.auto_event.AutoEvent.TheVariants.{AdminOpen, Down}
 use Rattle.ppp_auto.specs.declared.auto_state.AutoState.{AutoState}
 use Rattle.ppp_auto.specs.declared.auto_state.AutoState.TheVariants.{Initial, Starting, Closed, Stopped, Closing, Stopping, ReqSent, AckRcvd, AckSent, Opened}
@@ -17,14 +13,14 @@ use Rattle.ppp_auto.specs.declared.input.Input.TheVariants as on
 use Rattle.ppp_packet.specs.declared.proto.Proto.{Proto}
 use Rattle.ppp_packet.specs.declared.proto.Proto.TheVariants.{Lcp, Ip, Ipv6, Osi, Mpls, Bacp}
 use Rattle.ppp_frame.specs.declared.form.Form.{Form}
-use Rattle.ppp_link.specs.Automata.{Automata, auto_at, automata_begun, begun_if, cap_of, form_for, with_cap}
-use Rattle.ppp_link.specs.Link.{Link, event_did}
+use Rattle.ppp_link.specs.Automata.{auto_at, automata_begun, begun_if, cap_of, with_cap}
+use Rattle.ppp_link.specs.Link.{Link}
 use Rattle.ppp_link.specs.LinkTables.{LinkTables, bacp_table, ip_table, ipv6_table, mpls_table, osi_table, table_if, table_of}
 use Rattle.ppp_link.specs.Steps.{Event as Commanded, begins, does, told_all, told_by}
 use Rattle.ppp_link.specs.Steps as link
-use Rattle.ppp_station.specs.Orders.{Order, Commands, SetsCap, Obeyed, is_net, obeys, obeys_all, of_link, of_run, orders, packets_in}
+use Rattle.ppp_station.specs.Orders.{Commands, SetsCap, is_net, obeys_all, of_link, of_run, orders, packets_in}
 use Rattle.ppp_station.specs.Phases.{IsPhased, IsUpWhere}
-use Rattle.ppp_station.specs.Steps.{Happening, LineDown, link_does, link_done}
+use Rattle.ppp_station.specs.Steps.{LineDown, link_does, link_done}
 use Rattle.ppp_station.proofs.SignalLemmas.{all_caused, uncaused}
 use Rattle.ppp_station.specs.Station.{link_ready, on_link, opens_all}
 use Rattle.ppp_party.specs.Frame.{Frame, marked_frames, noted_frames, only, packets_for, seen}
@@ -37,7 +33,7 @@ use Rattle.ppp_party.specs.Seat.{Anew, IsEnd, IsSettled, IsSpoken, IsWell, Seat,
 use Rattle.ppp_party.proofs.LedgerLemmas.{commanded_kept, commanded_seen, packets_of, proper_command, read_all, sent_in}
 use Rattle.ppp_party.proofs.OrderLemmas.{at_own, duet_with, joined, orders-run}
 use Rattle.ppp_party.proofs.PostLemmas.{marked-frames, noted-frames}
-use Rattle.ppp_party.proofs.StepLemmas.{IsDone, is-done, leads-makes}
+use Rattle.ppp_party.proofs.StepLemmas.{is-done, leads-makes}
 use Rattle.ppp_station.proofs.WovenLemmas.{done-tables}
 use Rattle.std.proofs.lemmas.Grind.{flat_map-append}
 use Rattle.ppp_station.specs.StationOut.{AreShort}
@@ -427,14 +423,14 @@ reboots-came sa sb p m word e s o a b low spoken phased short own_at own_end oth
 
 -- ---- seen from the other end
 
-flipped : Event → Event
+unfoldable pub flipped : Event → Event
 flipped e = record { side = other_side e.side; what = e.what; word = e.word }
   where
     other_side : duet.Side → duet.Side
     other_side duet.A = duet.B
     other_side duet.B = duet.A
 
-flip-one : (sa sb : Setup) (d : Duet) (e : Event) → duet.turned (duet.happens sa sb d e) ≡ duet.happens sb sa (duet.turned d) (flipped e)
+pub flip-one : (sa sb : Setup) (d : Duet) (e : Event) → duet.turned (duet.happens sa sb d e) ≡ duet.happens sb sa (duet.turned d) (flipped e)
 unfolding flipped
 flip-one sa sb d e = by e.side
   where
@@ -442,7 +438,7 @@ flip-one sa sb d e = by e.side
     by duet.A = refl
     by duet.B = refl
 
-flip-run : (sa sb : Setup) (es : List Event) (d : Duet) → duet.turned (run sa sb es d) ≡ run sb sa (map flipped es) (duet.turned d)
+pub flip-run : (sa sb : Setup) (es : List Event) (d : Duet) → duet.turned (run sa sb es d) ≡ run sb sa (map flipped es) (duet.turned d)
 flip-run sa sb [] d = refl
 flip-run sa sb (e ∷ es) d = flip-run sa sb es (duet.happens sa sb d e) ∙ ap (run sb sa (map flipped es)) (flip-one sa sb d e)
 
@@ -451,7 +447,7 @@ unfolding flipped
 flip-none [] none = tt
 flip-none (e ∷ es) none = (none.0, flip-none es none.1)
 
-flip-first : (es : List Event) → DeliversFirst es → DeliversFirst (map flipped es)
+pub flip-first : (es : List Event) → DeliversFirst es → DeliversFirst (map flipped es)
 flip-first [] first = tt
 flip-first (e ∷ es) first = flip-none es first
 

@@ -85,6 +85,12 @@ settled-so what l word k so =
 
 -- ---- what stays so on a link
 
+length-without : (i : ℕ) (frames : List Frame) → length (without i frames) ≤ length frames
+length-without i [] = omega arith
+length-without zero (f ∷ fs) = omega arith
+length-without (suc zero) (f ∷ fs) = omega arith
+length-without (suc (suc i)) (f ∷ fs) = let more = length-without (suc i) fs in omega arith
+
 sent-take : (n : ℕ) (frames : List Frame) → AreSent frames → AreSent (take n frames)
 sent-take zero frames sent = tt
 sent-take (suc n) [] sent = tt
@@ -219,10 +225,10 @@ heard-others l m word f rest e s k low other at = record {
 -- ---- events, for each protocol on each link
 
 stays : (sa sb : Setup) (p : Proto) (m : ℕ) (s : Seat) (a : Auto) (b : End) (after : Ends) → SeatAt m after s → IsWell s → IsEnd sa p s a → Came sa sb p m s a b after
-stays sa sb p m s a b after at well end = record { seat = s; auto = a; seated = record { at = at; well = well; end = end }; makes = record { events = []; first = tt; leads = refl } }
+stays sa sb p m s a b after at well end = record { seat = s; auto = a; seated = record { at = at; well = well; end = end }; fewer = omega arith; makes = record { events = []; first = tt; leads = refl } }
 
-moves : (sa sb : Setup) (p : Proto) (m : ℕ) (s new : Seat) (a : Auto) (b : End) (after : Ends) → SeatAt m after new → IsWell new → SeatMakes sa sb p s new a b → Came sa sb p m s a b after
-moves sa sb p m s new a b after at well did = record { seat = new; auto = did.auto; seated = record { at = at; well = well; end = did.end }; makes = did.makes }
+moves : (sa sb : Setup) (p : Proto) (m : ℕ) (s new : Seat) (a : Auto) (b : End) (after : Ends) → SeatAt m after new → IsWell new → length new.incoming ≤ length s.incoming → SeatMakes sa sb p s new a b → Came sa sb p m s a b after
+moves sa sb p m s new a b after at well fewer did = record { seat = new; auto = did.auto; seated = record { at = at; well = well; end = did.end }; fewer = fewer; makes = did.makes }
 
 happens-by : (sa sb : Setup) (p : Proto) (what : Happening) (l m word : ℕ) (e : Ends) (s : Seat) (k : Link) (a : Auto) (b : End) → 1 ≤ l → 1 ≤ m → slice_get e.own.links (l - 1) ≡ Some k →
     IsNoFrame what → AreShort (link_done what l k word).out → SeatAt m e s → IsWell s → IsEnd sa p s a → (m ≡ l) ⊎ (m ≢ l) → Came sa sb p m s a b (happens what l word e)
@@ -232,7 +238,7 @@ happens-by sa sb p what l m word e s k a b low least there quiet short at well e
     let link : k ≡ s.link = let both : Some k ≡ Some s.link = sym there ∙ here.link in cc in
     let few : AreShort (link_done what l s.link word).out = subst (λ k. AreShort (link_done what l k word).out) link short in
     subst (λ m. Came sa sb p m s a b (posted 0 (on_link what l e.own.links word) e)) (sym same)
-    (moves sa sb p l s (seat_happens what l word s) a b _ (posted-own what l word 0 e s low here) (happens-well what l word s quiet few well) (happens-makes sa sb p what l word s a b quiet few end))
+    (moves sa sb p l s (seat_happens what l word s) a b _ (posted-own what l word 0 e s low here) (happens-well what l word s quiet few well) (omega arith) (happens-makes sa sb p what l word s a b quiet few end))
 happens-by sa sb p what l m word e s k a b low least there quiet short at well end (inr other) =
     stays sa sb p m s a b _ (posted-others what l m word 0 e s least other well.few at) well end
 
@@ -253,7 +259,7 @@ taking-by sa sb p l m word f rest e s k a b low least there front short at well 
     let heard = heard-own l word f rest e s low here in
     let came = moves sa sb p l s (seat_taking l word f rest s) a b _
     (posted-own (Takes f.octets) l word f.mark (record e { own = with_heard l word f rest (Some s.link) e.own }) (record s { ledgers = heard_on s.link f word s.ledgers; incoming = rest }) low heard)
-    (taking-well l word f rest s queue few well) (taking-makes sa sb p l word f rest s a b queue well.settled sent.0 few end) in
+    (taking-well l word f rest s queue few well) (omega (arith, ap length queue)) (taking-makes sa sb p l word f rest s a b queue well.settled sent.0 few end) in
     subst (λ m. Came sa sb p m s a b (posted f.mark (on_link (Takes f.octets) l e.own.links word) (record e { own = with_heard l word f rest (Some k) e.own }))) (sym same)
     (subst (λ k. Came sa sb p l s a b (posted f.mark (on_link (Takes f.octets) l e.own.links word) (record e { own = with_heard l word f rest (Some k) e.own }))) (sym link) came)
 taking-by sa sb p l m word f rest e s k a b low least there front short at well end (inr other) =
@@ -286,7 +292,7 @@ loses-by sa sb p l m place e s a b low least at well end (inl same) =
       outgoing = here.outgoing;
     } in
     subst (λ m. Came sa sb p m s a b (record e { own = record e.own { incoming = at_link l (without place) e.own.incoming } })) (sym same)
-    (moves sa sb p l s (seat_loses place s) a b _ now (loses-well place s well) (loses-makes sa sb p place s a b end))
+    (moves sa sb p l s (seat_loses place s) a b _ now (loses-well place s well) (length-without place s.incoming) (loses-makes sa sb p place s a b end))
 loses-by sa sb p l m place e s a b low least at well end (inr other) =
     let now : SeatAt m (record e { own = record e.own { incoming = at_link l (without place) e.own.incoming } }) s = record {
       link = at.link;

@@ -114,6 +114,7 @@ pub record Came (sa sb : Setup) (p : Proto) (m : ℕ) (s : Seat) (a : Auto) (b :
   pub seat : Seat
   pub auto : Auto
   pub seated : IsSeated sa p m after seat auto
+  pub fewer : length seat.incoming ≤ length s.incoming
   pub makes : Makes sa sb (seat_duet p a s b) (seat_duet p auto seat b)
 
 -- What it came to that both ends began, or one of them anew: the link at both as it is then, the automata of the protocol, and a
