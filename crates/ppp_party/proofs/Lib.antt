@@ -1,7 +1,9 @@
+mod KeptLemmas
 mod LedgerLemmas
 mod OrderLemmas
 mod PostLemmas
 mod ReadLemmas
+mod RebootLemmas
 mod SeatLemmas
 mod SentLemmas
 mod StepLemmas

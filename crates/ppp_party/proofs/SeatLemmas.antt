@@ -85,6 +85,12 @@ settled-so what l word k so =
 
 -- ---- what stays so on a link
 
+length-without : (i : ℕ) (frames : List Frame) → length (without i frames) ≤ length frames
+length-without i [] = omega arith
+length-without zero (f ∷ fs) = omega arith
+length-without (suc zero) (f ∷ fs) = omega arith
+length-without (suc (suc i)) (f ∷ fs) = let more = length-without (suc i) fs in omega arith
+
 sent-take : (n : ℕ) (frames : List Frame) → AreSent frames → AreSent (take n frames)
 sent-take zero frames sent = tt
 sent-take (suc n) [] sent = tt
@@ -128,7 +134,7 @@ loses-well place s well = record { settled = well.settled; incoming = sent-witho
 -- ---- among all links
 
 -- two numbers are the same or not
-same-or : (m l : ℕ) → (m ≡ l) ⊎ (m ≢ l)
+pub same-or : (m l : ℕ) → (m ≡ l) ⊎ (m ≢ l)
 same-or m l = by (m == l) refl
   where
     by : (b : Bool) → (m == l) ≡ b → (m ≡ l) ⊎ (m ≢ l)
@@ -160,7 +166,7 @@ at-others (suc (suc l)) (suc (suc m)) f (y ∷ ys) low other =
 entries-are : (what : Happening) (l word : ℕ) (links : List Link) (k : Link) → slice_get links (l - 1) ≡ Some k → (on_link what l links word).out.entries ≡ (link_done what l k word).out
 entries-are what l word links k is = ap (λ o. (stepped_by what l links word o).out.entries) is
 
-posted-own : (what : Happening) (l word mark : ℕ) (e : Ends) (s : Seat) → 1 ≤ l → SeatAt l e s →
+pub posted-own : (what : Happening) (l word mark : ℕ) (e : Ends) (s : Seat) → 1 ≤ l → SeatAt l e s →
     SeatAt l (posted mark (on_link what l e.own.links word) e) (seat_posted mark l (link_done what l s.link word) s)
 posted-own what l word mark e s low at =
     let es = (on_link what l e.own.links word).out.entries in
@@ -177,12 +183,17 @@ posted-own what l word mark e s low at =
 none-queued : (queue : List Frame) → length queue ≤ room → queued queue [] ≡ queue
 none-queued queue few = ap (take room) (append-nil queue) ∙ take_all room queue few
 
-posted-others : (what : Happening) (l m word mark : ℕ) (e : Ends) (s : Seat) (k : Link) → 1 ≤ m → m ≢ l → slice_get e.own.links (l - 1) ≡ Some k → length s.outgoing ≤ room → SeatAt m e s →
+-- nothing goes out on another link
+elsewhere-by : (what : Happening) (l m word : ℕ) (links : List Link) (o : Option Link) → m ≢ l → pushes_on m (stepped_by what l links word o).out.entries ≡ []
+elsewhere-by what l m word links None other = refl
+elsewhere-by what l m word links (Some k) other = none-elsewhere l m (link_done what l k word).out other (done-framed what l word k)
+
+pub posted-others : (what : Happening) (l m word mark : ℕ) (e : Ends) (s : Seat) → 1 ≤ m → m ≢ l → length s.outgoing ≤ room → SeatAt m e s →
     SeatAt m (posted mark (on_link what l e.own.links word) e) s
-posted-others what l m word mark e s k low other there few at =
+posted-others what l m word mark e s low other few at =
     let es = (on_link what l e.own.links word).out.entries in
     let one : 1 + (m - 1) ≡ m = omega arith in
-    let none : pushes_on (1 + (m - 1)) es ≡ [] = (λ i. pushes_on (one i) (entries-are what l word e.own.links k there i)) ∙ none-elsewhere l m (link_done what l k word).out other (done-framed what l word k) in
+    let none : pushes_on (1 + (m - 1)) es ≡ [] = ap (λ n. pushes_on n es) one ∙ elsewhere-by what l m word e.own.links (slice_get e.own.links (l - 1)) other in
     record {
       link = other-links what l m word e.own.links low other ∙ at.link;
       ledgers = noted-at 1 es e.own.ledgers (m - 1) ∙ (λ i. option_map (λ g. noted_frames g (none i)) (at.ledgers i));
@@ -214,10 +225,10 @@ heard-others l m word f rest e s k low other at = record {
 -- ---- events, for each protocol on each link
 
 stays : (sa sb : Setup) (p : Proto) (m : ℕ) (s : Seat) (a : Auto) (b : End) (after : Ends) → SeatAt m after s → IsWell s → IsEnd sa p s a → Came sa sb p m s a b after
-stays sa sb p m s a b after at well end = record { seat = s; auto = a; seated = record { at = at; well = well; end = end }; makes = record { events = []; first = tt; leads = refl } }
+stays sa sb p m s a b after at well end = record { seat = s; auto = a; seated = record { at = at; well = well; end = end }; fewer = omega arith; makes = record { events = []; first = tt; leads = refl } }
 
-moves : (sa sb : Setup) (p : Proto) (m : ℕ) (s new : Seat) (a : Auto) (b : End) (after : Ends) → SeatAt m after new → IsWell new → SeatMakes sa sb p s new a b → Came sa sb p m s a b after
-moves sa sb p m s new a b after at well did = record { seat = new; auto = did.auto; seated = record { at = at; well = well; end = did.end }; makes = did.makes }
+moves : (sa sb : Setup) (p : Proto) (m : ℕ) (s new : Seat) (a : Auto) (b : End) (after : Ends) → SeatAt m after new → IsWell new → length new.incoming ≤ length s.incoming → SeatMakes sa sb p s new a b → Came sa sb p m s a b after
+moves sa sb p m s new a b after at well fewer did = record { seat = new; auto = did.auto; seated = record { at = at; well = well; end = did.end }; fewer = fewer; makes = did.makes }
 
 happens-by : (sa sb : Setup) (p : Proto) (what : Happening) (l m word : ℕ) (e : Ends) (s : Seat) (k : Link) (a : Auto) (b : End) → 1 ≤ l → 1 ≤ m → slice_get e.own.links (l - 1) ≡ Some k →
     IsNoFrame what → AreShort (link_done what l k word).out → SeatAt m e s → IsWell s → IsEnd sa p s a → (m ≡ l) ⊎ (m ≢ l) → Came sa sb p m s a b (happens what l word e)
@@ -227,9 +238,9 @@ happens-by sa sb p what l m word e s k a b low least there quiet short at well e
     let link : k ≡ s.link = let both : Some k ≡ Some s.link = sym there ∙ here.link in cc in
     let few : AreShort (link_done what l s.link word).out = subst (λ k. AreShort (link_done what l k word).out) link short in
     subst (λ m. Came sa sb p m s a b (posted 0 (on_link what l e.own.links word) e)) (sym same)
-    (moves sa sb p l s (seat_happens what l word s) a b _ (posted-own what l word 0 e s low here) (happens-well what l word s quiet few well) (happens-makes sa sb p what l word s a b quiet few end))
+    (moves sa sb p l s (seat_happens what l word s) a b _ (posted-own what l word 0 e s low here) (happens-well what l word s quiet few well) (omega arith) (happens-makes sa sb p what l word s a b quiet few end))
 happens-by sa sb p what l m word e s k a b low least there quiet short at well end (inr other) =
-    stays sa sb p m s a b _ (posted-others what l m word 0 e s k least other there well.few at) well end
+    stays sa sb p m s a b _ (posted-others what l m word 0 e s least other well.few at) well end
 
 pub happens-came : (sa sb : Setup) (p : Proto) (what : Happening) (l m word : ℕ) (e : Ends) (s : Seat) (k : Link) (a : Auto) (b : End) → 1 ≤ l → 1 ≤ m → slice_get e.own.links (l - 1) ≡ Some k →
     IsNoFrame what → AreShort (link_done what l k word).out → SeatAt m e s → IsWell s → IsEnd sa p s a → Came sa sb p m s a b (happens what l word e)
@@ -248,11 +259,11 @@ taking-by sa sb p l m word f rest e s k a b low least there front short at well 
     let heard = heard-own l word f rest e s low here in
     let came = moves sa sb p l s (seat_taking l word f rest s) a b _
     (posted-own (Takes f.octets) l word f.mark (record e { own = with_heard l word f rest (Some s.link) e.own }) (record s { ledgers = heard_on s.link f word s.ledgers; incoming = rest }) low heard)
-    (taking-well l word f rest s queue few well) (taking-makes sa sb p l word f rest s a b queue well.settled sent.0 few end) in
+    (taking-well l word f rest s queue few well) (omega (arith, ap length queue)) (taking-makes sa sb p l word f rest s a b queue well.settled sent.0 few end) in
     subst (λ m. Came sa sb p m s a b (posted f.mark (on_link (Takes f.octets) l e.own.links word) (record e { own = with_heard l word f rest (Some k) e.own }))) (sym same)
     (subst (λ k. Came sa sb p l s a b (posted f.mark (on_link (Takes f.octets) l e.own.links word) (record e { own = with_heard l word f rest (Some k) e.own }))) (sym link) came)
 taking-by sa sb p l m word f rest e s k a b low least there front short at well end (inr other) =
-    stays sa sb p m s a b _ (posted-others (Takes f.octets) l m word f.mark (record e { own = with_heard l word f rest (Some k) e.own }) s k least other there well.few (heard-others l m word f rest e s k least other at)) well end
+    stays sa sb p m s a b _ (posted-others (Takes f.octets) l m word f.mark (record e { own = with_heard l word f rest (Some k) e.own }) s least other well.few (heard-others l m word f rest e s k least other at)) well end
 
 front-by : (sa sb : Setup) (p : Proto) (l m word : ℕ) (e : Ends) (s : Seat) (k : Link) (a : Auto) (b : End) (o : Option (List Frame)) → slice_get e.own.incoming (l - 1) ≡ o → 1 ≤ l → 1 ≤ m → slice_get e.own.links (l - 1) ≡ Some k →
     ((f : Frame) (rest : List Frame) → o ≡ Some (f ∷ rest) → AreShort (link_done (Takes f.octets) l k word).out) → SeatAt m e s → IsWell s → IsEnd sa p s a →
@@ -281,7 +292,7 @@ loses-by sa sb p l m place e s a b low least at well end (inl same) =
       outgoing = here.outgoing;
     } in
     subst (λ m. Came sa sb p m s a b (record e { own = record e.own { incoming = at_link l (without place) e.own.incoming } })) (sym same)
-    (moves sa sb p l s (seat_loses place s) a b _ now (loses-well place s well) (loses-makes sa sb p place s a b end))
+    (moves sa sb p l s (seat_loses place s) a b _ now (loses-well place s well) (length-without place s.incoming) (loses-makes sa sb p place s a b end))
 loses-by sa sb p l m place e s a b low least at well end (inr other) =
     let now : SeatAt m (record e { own = record e.own { incoming = at_link l (without place) e.own.incoming } }) s = record {
       link = at.link;

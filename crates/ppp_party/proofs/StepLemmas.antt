@@ -162,7 +162,7 @@ first-of : (es : List Event) → HaveNoDelivery es → DeliversFirst es
 first-of [] none = tt
 first-of (e ∷ es) none = none.1
 
-leads-makes : (sa sb : Setup) (a b : Duet) → Leads sa sb a b → Makes sa sb a b
+pub leads-makes : (sa sb : Setup) (a b : Duet) → Leads sa sb a b → Makes sa sb a b
 leads-makes sa sb a b l = record { events = l.events; first = first-of l.events l.none; leads = l.leads }
 
 first-append : (es fs : List Event) → DeliversFirst es → HaveNoDelivery fs → DeliversFirst (es ++ fs)
@@ -185,11 +185,11 @@ pub record SeatMakes (sa sb : Setup) (p : Proto) (s new : Seat) (a : Auto) (b : 
   pub makes : Makes sa sb (seat_duet p a s b) (seat_duet p auto new b)
 
 -- what the station's step is to the automaton of p, which obeyed these orders
-record IsDone (sa : Setup) (p : Proto) (l word : ℕ) (k : Link) (what : Happening) (did : Obeyed) : Type 0 where
-  auto : auto_at (link_done what l k word).link.automata p ≡ Some did.auto
-  sent : packets_for p (pushes_on l (link_done what l k word).out) ≡ read_all did.sent
+pub record IsDone (sa : Setup) (p : Proto) (l word : ℕ) (k : Link) (what : Happening) (did : Obeyed) : Type 0 where
+  pub auto : auto_at (link_done what l k word).link.automata p ≡ Some did.auto
+  pub sent : packets_for p (pushes_on l (link_done what l k word).out) ≡ read_all did.sent
 
-is-done : (sa : Setup) (p : Proto) (what : Happening) (l word : ℕ) (k : Link) (a : Auto) → AreShort (link_done what l k word).out →
+pub is-done : (sa : Setup) (p : Proto) (what : Happening) (l word : ℕ) (k : Link) (a : Auto) → AreShort (link_done what l k word).out →
     sa.table ≡ table_of k.tables p → auto_at k.automata p ≡ Some a → IsDone sa p l word k what (obeys_all sa.table word (orders p what k word) a)
 is-done sa p what l word k a short table auto =
     let os = orders p what k word in

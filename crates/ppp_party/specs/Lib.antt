@@ -1,5 +1,6 @@
 pub mod Events
 pub mod Frame
+pub mod Kept
 pub mod Ledger
 pub mod Party
 pub mod Seat

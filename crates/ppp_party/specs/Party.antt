@@ -1,6 +1,6 @@
 -- One end of a world: a station, what is counted of its requests, and the frames under way to it, link by link; and what an
 -- event at it makes of it, and of the frames under way to the other end.
-use Rattle.std.specs.Prelude.{ℕ, zero, suc, ◌+◌, ◌-◌, ◌==◌, if◌then◌else◌, List, [], ◌∷◌, ◌++◌, take, Option, Some, None, slice_get}
+use Rattle.std.specs.Prelude.{ℕ, zero, suc, ◌+◌, ◌-◌, ◌==◌, if◌then◌else◌, List, [], ◌∷◌, ◌++◌, length, map, take, Option, Some, None, slice_get}
 use Rattle.std.specs.List.{flat_map}
 use Rattle.ppp_auto.specs.Auto.{Auto}
 use Rattle.ppp_auto.specs.Packet.{Packet, packet_of}
@@ -8,11 +8,11 @@ use Rattle.ppp_duet.specs.Duet.{without}
 use Rattle.ppp_link.specs.Automata.{auto_at}
 use Rattle.ppp_link.specs.Link.{Link}
 use Rattle.ppp_station.specs.Orders.{Order, Hears, of_link}
-use Rattle.ppp_station.specs.Station.{Stepped, on_link}
+use Rattle.ppp_station.specs.Station.{Stepped, link_ready, on_link}
 use Rattle.ppp_station.specs.StationOut.{Entry, Push, Got, Hang}
-use Rattle.ppp_station.specs.Steps.{Happening, Takes}
+use Rattle.ppp_station.specs.Steps.{Happening, LineDown, Takes}
 use Rattle.ppp_party.specs.Frame.{Frame, marked_frames, noted_frames}
-use Rattle.ppp_party.specs.Ledger.{Ledger, Ledgers, heard, ledger_at, ledgers_by}
+use Rattle.ppp_party.specs.Ledger.{Ledger, Ledgers, heard, ledger_at, ledgers_begun, ledgers_by}
 
 pub record Party : Type 0 where
   pub links : List Link
@@ -107,3 +107,35 @@ delivers l word e = taking_front l word (slice_get e.own.incoming (l - 1)) e
 -- the frame of that place under way to the end is lost, from 1 on
 unfoldable pub loses : ℕ → ℕ → Ends → Ends
 loses l place e = record e { own = record e.own { incoming = at_link l (without place) e.own.incoming } }
+
+-- ---- an end begins anew
+
+-- as it begins, with these links
+abbrev pub party_begun : List Link → Party
+party_begun links = record { links = links; ledgers = map (λ k. ledgers_begun) links; incoming = map (λ k. []) links }
+
+abbrev pub ends_begun : List Link → List Link → Ends
+ends_begun own other = record { own = party_begun own; other = party_begun other }
+
+-- what the other end has heard of counts no longer, and nothing is under way to it
+abbrev pub unheard : Ledgers → Ledgers
+unheard gs = ledgers_by (λ p. record (ledger_at gs p) { got = 0 })
+
+abbrev pub cleared : Party → Party
+cleared e = record { links = e.links; ledgers = map unheard e.ledgers; incoming = map (λ queue. []) e.incoming }
+
+-- so many lines go down, from that number on
+abbrev pub downs : ℕ → ℕ → ℕ → Ends → Ends
+downs zero l word e = e
+downs (suc more) l word e = downs more (l + 1) word (happens LineDown l word e)
+
+abbrev pub turned : Ends → Ends
+turned e = record { own = e.other; other = e.own }
+
+-- What is under way both ways is lost, the station begins anew, and the other end sees its lines go down, one after the other.
+unfoldable pub reboots : ℕ → Ends → Ends
+reboots word e =
+    turned (downs (length e.other.links) 1 word (record {
+      own = cleared e.other;
+      other = party_begun (map (λ k. link_ready k.tables) e.own.links);
+    }))

@@ -9,15 +9,15 @@ use Rattle.ppp_frame.specs.Frame.{enc}
 use Rattle.ppp_frame.specs.Standing.{fresh}
 use Rattle.ppp_packet.specs.Proto.{proto_number}
 use Rattle.ppp_packet.specs.declared.proto.Proto.{Proto}
-use Rattle.ppp_link.specs.Automata.{auto_at}
+use Rattle.ppp_link.specs.Automata.{auto_at, automata_begun}
 use Rattle.ppp_link.specs.Link.{Link}
-use Rattle.ppp_link.specs.LinkTables.{table_of}
+use Rattle.ppp_link.specs.LinkTables.{LinkTables, table_of}
 use Rattle.ppp_link.specs.declared.link.TheConstants.{MOST_FRAME}
 use Rattle.ppp_station.specs.Steps.{Done, Happening, LineUp, LineDown, Opens, Closes, TimesOut, Takes, link_done}
 use Rattle.ppp_party.specs.Events.{Makes}
 use Rattle.ppp_party.specs.Frame.{Frame, marked_frames, noted_frames, only}
-use Rattle.ppp_party.specs.Ledger.{Ledgers, IsLedgerOf, end_of, ledger_at}
-use Rattle.ppp_party.specs.Party.{Ends, heard_on, pushes_on, queued, room}
+use Rattle.ppp_party.specs.Ledger.{Ledgers, IsLedgerOf, end_of, ledger_at, first_id}
+use Rattle.ppp_party.specs.Party.{Ends, heard_on, pushes_on, queued, room, turned}
 
 pub record Seat : Type 0 where
   pub link : Link
@@ -114,4 +114,23 @@ pub record Came (sa sb : Setup) (p : Proto) (m : ℕ) (s : Seat) (a : Auto) (b :
   pub seat : Seat
   pub auto : Auto
   pub seated : IsSeated sa p m after seat auto
+  pub fewer : length seat.incoming ≤ length s.incoming
   pub makes : Makes sa sb (seat_duet p a s b) (seat_duet p auto seat b)
+
+-- What it came to that both ends began, or one of them anew: the link at both as it is then, the automata of the protocol, and a
+-- list of the two ends' events that leads there.
+pub record Anew (sa sb : Setup) (p : Proto) (m : ℕ) (before : Duet) (after : Ends) : Type 0 where
+  pub own : Seat
+  pub other : Seat
+  pub own_auto : Auto
+  pub other_auto : Auto
+  pub own_seated : IsSeated sa p m after own own_auto
+  pub other_seated : IsSeated sb p m (turned after) other other_auto
+  pub makes : Makes sa sb before (seat_duet p own_auto own (end_of other_auto (ledger_at other.ledgers p)))
+
+-- an end of that table begins with the first Identifier, and the protocol is configured among these tables
+pub record IsSpoken (sa : Setup) (p : Proto) (t : LinkTables) : Type 0 where
+  pub first : sa.first ≡ first_id
+  pub table : sa.table ≡ table_of t p
+  pub auto : Auto
+  pub there : auto_at (automata_begun t) p ≡ Some auto

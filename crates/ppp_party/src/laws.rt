@@ -1,15 +1,20 @@
-//! What an event at an end is to the two ends of each protocol on each link.
+//! What an event at an end is to the two ends of each protocol on each link, and what is kept of them.
 
 ghost use Rattle.std.specs.Prelude.{◌≡◌, ◌-◌, ◌≤◌, ℕ, List, ◌∷◌, Some, slice_get};
 ghost use Rattle.ppp_auto.specs.Auto.{Auto};
-ghost use Rattle.ppp_duet.specs.Duet.{End, Setup};
+ghost use Rattle.ppp_duet.specs.Duet.{End, Setup, start};
+ghost use Rattle.ppp_duet.specs.Span.{Narrow};
 ghost use Rattle.ppp_link.specs.Link.{Link};
 ghost use Rattle.ppp_packet.specs.declared.proto.Proto.{Proto};
 ghost use Rattle.ppp_station.specs.StationOut.{AreShort};
-ghost use Rattle.ppp_station.specs.Steps.{Happening, Takes, link_done};
+ghost use Rattle.ppp_station.specs.Phases.{IsPhased};
+ghost use Rattle.ppp_station.specs.Station.{IsReady};
+ghost use Rattle.ppp_station.specs.Steps.{Happening, LineDown, Takes, link_done};
 ghost use Rattle.ppp_party.specs.Frame.{Frame};
-ghost use Rattle.ppp_party.specs.Party.{Ends, delivers, happens, loses};
-ghost use Rattle.ppp_party.specs.Seat.{Came, IsNoFrame, IsSeated, Seat};
+ghost use Rattle.ppp_party.specs.Kept.{Kept, duet_of};
+ghost use Rattle.ppp_party.specs.Ledger.{end_of, ledger_at};
+ghost use Rattle.ppp_party.specs.Party.{Ends, delivers, ends_begun, happens, loses, reboots, turned};
+ghost use Rattle.ppp_party.specs.Seat.{Anew, Came, IsNoFrame, IsSeated, IsSpoken, Seat, seat_duet};
 
 /// Does nothing. Its clauses are laws. Of each, let a protocol be configured on a link of the end, its ledger fit its automaton,
 /// the link's deframer stand as after a flag, and what is under way on the link be frames of control protocols. Then so it is
@@ -35,4 +40,52 @@ pub fn events()
     ensures loses { (sa sb : Setup) (p : Proto) (l m place : ℕ) (e : Ends) (s : Seat) (a : Auto) (b : End)
         → 1 ≤ l → 1 ≤ m
         → IsSeated sa p m e s a → Came sa sb p m s a b (loses l place e) }
+{}
+
+/// Does nothing. Its clauses are laws on a protocol that is configured on a link at both ends.
+///
+/// - `begins`: both ends as they begin are led to from the start of two ends by a list of events that delivers nothing.
+/// - `reboots`: one end begins anew. For the protocol that is the two ends' event of that name, and then more that deliver
+///   nothing. It holds where the control protocols of the other end's link are Up exactly while LCP is Opened there, as they
+///   always are.
+pub fn anew()
+    ensures begins { (sa sb : Setup) (p : Proto) (m : ℕ) (own other : List Link) (k j : Link)
+        → slice_get own (m - 1) ≡ Some k → slice_get other (m - 1) ≡ Some j
+        → IsReady k → IsReady j → IsSpoken sa p k.tables → IsSpoken sb p j.tables
+        → Anew sa sb p m (start sa sb) (ends_begun own other) }
+    ensures reboots { (sa sb : Setup) (p : Proto) (m word : ℕ) (e : Ends) (s o : Seat) (a b : Auto)
+        → 1 ≤ m → IsSpoken sa p s.link.tables
+        → IsPhased o.link → AreShort (link_done LineDown m o.link word).out
+        → IsSeated sa p m e s a → IsSeated sb p m (turned e) o b
+        → Anew sa sb p m (seat_duet p a s (end_of b (ledger_at o.ledgers p))) (reboots word e) }
+{}
+
+/// Does nothing. Its clauses are laws on what holds of a protocol that is configured on a link at both ends: a list of the two
+/// ends' events leads from their start to the state that they are in, each delivery of it from a state whose spans are at most
+/// 255. So the laws on two ends hold there.
+///
+/// - `begins`: it holds of both ends as they begin.
+/// - `happens`, `delivers`, `loses`, `reboots`: it holds after each event at an end, on whatever link, if no span was wider before.
+/// - `turned`: what holds of the two ends holds of them as the other sees it, so events at the other end keep it too.
+pub fn kept()
+    ensures begins { (sa sb : Setup) (p : Proto) (m : ℕ) (own other : List Link) (k j : Link)
+        → slice_get own (m - 1) ≡ Some k → slice_get other (m - 1) ≡ Some j
+        → IsReady k → IsReady j → IsSpoken sa p k.tables → IsSpoken sb p j.tables
+        → Kept sa sb p m (ends_begun own other) }
+    ensures happens { (sa sb : Setup) (p : Proto) (what : Happening) (l m word : ℕ) (e : Ends) (j : Link) (k : Kept sa sb p m e)
+        → 1 ≤ l → 1 ≤ m → Narrow (duet_of k) → slice_get e.own.links (l - 1) ≡ Some j
+        → IsNoFrame what → AreShort (link_done what l j word).out
+        → Kept sa sb p m (happens what l word e) }
+    ensures delivers { (sa sb : Setup) (p : Proto) (l m word : ℕ) (e : Ends) (j : Link) (k : Kept sa sb p m e)
+        → 1 ≤ l → 1 ≤ m → Narrow (duet_of k) → slice_get e.own.links (l - 1) ≡ Some j
+        → ((f : Frame) (rest : List Frame) → slice_get e.own.incoming (l - 1) ≡ Some (f ∷ rest)
+        → AreShort (link_done (Takes f.octets) l j word).out)
+        → Kept sa sb p m (delivers l word e) }
+    ensures loses { (sa sb : Setup) (p : Proto) (l m place : ℕ) (e : Ends) (k : Kept sa sb p m e)
+        → 1 ≤ l → 1 ≤ m → Narrow (duet_of k) → Kept sa sb p m (loses l place e) }
+    ensures reboots { (sa sb : Setup) (p : Proto) (m word : ℕ) (e : Ends) (k : Kept sa sb p m e)
+        → 1 ≤ m → Narrow (duet_of k) → IsSpoken sa p k.own.link.tables
+        → IsPhased k.other.link → AreShort (link_done LineDown m k.other.link word).out
+        → Kept sa sb p m (reboots word e) }
+    ensures turned { (sa sb : Setup) (p : Proto) (m : ℕ) (e : Ends) → Kept sa sb p m e → Kept sb sa p m (turned e) }
 {}

@@ -9,7 +9,7 @@
 //! The laws on two ends of one protocol (`ppp_duet`) speak of packets. That each event at an end is a list of their events, for
 //! every protocol on every link, is what stands here.
 //!
-//! Left out: bundles, datagrams that are sent, and an end that begins anew.
+//! Left out: bundles, and datagrams that are sent.
 #![tactic(auto)]
 
 pub mod laws;

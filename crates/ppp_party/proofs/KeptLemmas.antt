@@ -1,0 +1,197 @@
+-- What is kept of the two ends of a protocol on a link, by an event at either end.
+use Rattle.std.proofs.Common.{◌≡◌, ℕ, ◌-◌, ◌≤◌, List, [], ◌∷◌, length, map, refl, sym, ap, subst, ◌∙◌, arith}
+use Rattle.std.specs.Prelude.{Option, Some, None, slice_get}
+use Rattle.ppp_duet.specs.Duet as duet
+use Rattle.ppp_duet.specs.Duet.{Duet, End, Event, Happening, Setup, run, start}
+use Rattle.ppp_duet.specs.NarrowRun.{IsNarrowWhereTaken, NarrowIfTaken}
+use Rattle.ppp_duet.specs.Reached.{Reached}
+use Rattle.ppp_duet.specs.Span.{Narrow}
+use Rattle.ppp_duet.proofs.ReachedLemmas.{reached_more, reached_start}
+use Rattle.ppp_packet.specs.declared.proto.Proto.{Proto}
+use Rattle.ppp_link.specs.Link.{Link}
+use Rattle.ppp_station.specs.Phases.{IsPhased}
+use Rattle.ppp_station.specs.Station.{link_ready}
+use Rattle.ppp_station.specs.StationOut.{AreShort}
+use Rattle.ppp_station.specs.Steps.{Happening as Happens, LineDown, Takes, link_done}
+use Rattle.ppp_party.specs.Events.{DeliversFirst, HaveNoDelivery, IsNoDelivery, Makes}
+use Rattle.ppp_party.specs.Frame.{Frame, only}
+use Rattle.ppp_party.specs.Kept.{Kept, duet_of}
+use Rattle.ppp_party.specs.Ledger.{end_of, ledger_at}
+use Rattle.ppp_party.specs.Party.{Ends, delivers, ends_begun, happens, loses, reboots, taking_front, turned}
+use Rattle.ppp_party.specs.Seat.{Anew, Came, IsNoFrame, IsSpoken, Seat, SeatAt}
+use Rattle.ppp_party.proofs.RebootLemmas.{begins-came, flip-one, flip-run, flipped, reboots-came}
+use Rattle.ppp_party.proofs.SeatLemmas.{delivers-came, happens-came, loses-came}
+
+-- ---- states that are led to
+
+no-delivery : (what : Happening) (d : Duet) → IsNoDelivery what → NarrowIfTaken what d
+no-delivery (duet.Commands event) d none = λ same. absurd (cc)
+no-delivery (duet.SetsCap cap) d none = λ same. absurd (cc)
+no-delivery (duet.RejectsProtocol id octets) d none = λ same. absurd (cc)
+no-delivery duet.Delivers d none = absurd none
+no-delivery (duet.Loses place) d none = λ same. absurd (cc)
+no-delivery duet.Reboots d none = λ same. absurd (cc)
+
+none-taken : (sa sb : Setup) (es : List Event) (d : Duet) → HaveNoDelivery es → IsNarrowWhereTaken sa sb es d
+none-taken sa sb [] d none = tt
+none-taken sa sb (e ∷ es) d none = (no-delivery e.what d none.0, none-taken sa sb es (duet.happens sa sb d e) none.1)
+
+first-taken : (sa sb : Setup) (es : List Event) (d : Duet) → DeliversFirst es → Narrow d → IsNarrowWhereTaken sa sb es d
+first-taken sa sb [] d first narrow = tt
+first-taken sa sb (e ∷ es) d first narrow = (λ same. narrow, none-taken sa sb es (duet.happens sa sb d e) first)
+
+pub reached-makes : (sa sb : Setup) (a b : Duet) → Narrow a → Makes sa sb a b → Reached sa sb a → Reached sa sb b
+reached-makes sa sb a b narrow makes reached = subst (Reached sa sb) makes.leads (reached_more sa sb a makes.events (first-taken sa sb makes.events a makes.first narrow) reached)
+
+-- ---- the other end
+
+-- its link and its ledgers stay, and what is under way to it is what goes out
+pub record IsSame (before after : Ends) : Type 0 where
+  pub links : after.other.links ≡ before.other.links
+  pub ledgers : after.other.ledgers ≡ before.other.ledgers
+
+abbrev other_with : Seat → Seat → Seat
+other_with o s = record { link = o.link; ledgers = o.ledgers; incoming = s.outgoing; outgoing = s.incoming }
+
+other-at : (m : ℕ) (before after : Ends) (o s : Seat) → IsSame before after → SeatAt m (turned before) o → SeatAt m after s → SeatAt m (turned after) (other_with o s)
+other-at m before after o s same was at = record {
+  link = ap (λ ks. slice_get ks (m - 1)) same.links ∙ was.link;
+  ledgers = ap (λ gs. slice_get gs (m - 1)) same.ledgers ∙ was.ledgers;
+  incoming = at.outgoing;
+  outgoing = at.incoming;
+}
+
+-- the two queues are the same from both ends
+record AreQueues (own other : Seat) : Type 0 where
+  incoming : other.incoming ≡ own.outgoing
+  outgoing : other.outgoing ≡ own.incoming
+
+queues-at : (m : ℕ) (e : Ends) (s o : Seat) → SeatAt m e s → SeatAt m (turned e) o → AreQueues s o
+queues-at m e s o own other = record {
+  incoming = let both : Some o.incoming ≡ Some s.outgoing = sym other.incoming ∙ own.outgoing in cc;
+  outgoing = let both : Some o.outgoing ≡ Some s.incoming = sym other.outgoing ∙ own.incoming in cc;
+}
+
+-- an event at the own end
+pub came-kept : (sa sb : Setup) (p : Proto) (m : ℕ) (before after : Ends) (k : Kept sa sb p m before) → IsSame before after → Narrow (duet_of k) →
+    Came sa sb p m k.own k.own_auto (end_of k.other_auto (ledger_at k.other.ledgers p)) after → Kept sa sb p m after
+came-kept sa sb p m before after k same narrow came =
+    let queues = queues-at m before k.own k.other k.own_seated.at k.other_seated.at in
+    let few = k.other_seated.well.few in
+    record {
+      own = came.seat;
+      other = other_with k.other came.seat;
+      own_auto = came.auto;
+      other_auto = k.other_auto;
+      own_seated = came.seated;
+      other_seated = record {
+        at = other-at m before after k.other came.seat same k.other_seated.at came.seated.at;
+        well = record {
+          settled = k.other_seated.well.settled;
+          incoming = came.seated.well.outgoing;
+          outgoing = came.seated.well.incoming;
+          few = omega (arith, came.fewer, few, ap length queues.outgoing);
+        };
+        end = record { table = k.other_seated.end.table; auto = k.other_seated.end.auto; kept = k.other_seated.end.kept };
+      };
+      reached = reached-makes sa sb _ _ narrow came.makes k.reached;
+    }
+
+-- both ends as they begin, and one that begins anew
+pub anew-kept : (sa sb : Setup) (p : Proto) (m : ℕ) (d : Duet) (after : Ends) → Narrow d → Reached sa sb d → Anew sa sb p m d after → Kept sa sb p m after
+anew-kept sa sb p m d after narrow reached anew = record {
+  own = anew.own;
+  other = anew.other;
+  own_auto = anew.own_auto;
+  other_auto = anew.other_auto;
+  own_seated = anew.own_seated;
+  other_seated = anew.other_seated;
+  reached = reached-makes sa sb d _ narrow anew.makes reached;
+}
+
+-- ---- seen from the other end
+
+narrow-turned : (d : Duet) → Narrow d → Narrow (duet.turned d)
+narrow-turned d narrow = record { of_a = narrow.of_b; of_b = narrow.of_a }
+
+flip-taken : (sa sb : Setup) (es : List Event) (d : Duet) → IsNarrowWhereTaken sa sb es d → IsNarrowWhereTaken sb sa (map flipped es) (duet.turned d)
+unfolding flipped
+flip-taken sa sb [] d taken = tt
+flip-taken sa sb (e ∷ es) d taken =
+    (λ same. narrow-turned d (taken.0 same), subst (IsNarrowWhereTaken sb sa (map flipped es)) (flip-one sa sb d e) (flip-taken sa sb es (duet.happens sa sb d e) taken.1))
+
+reached-turned : (sa sb : Setup) (d : Duet) → Reached sa sb d → Reached sb sa (duet.turned d)
+reached-turned sa sb d r = record {
+  events = map flipped r.events;
+  narrow = flip-taken sa sb r.events (start sa sb) r.narrow;
+  ends = sym (flip-run sa sb r.events (start sa sb)) ∙ ap duet.turned r.ends;
+}
+
+pub turned-kept : (sa sb : Setup) (p : Proto) (m : ℕ) (e : Ends) → Kept sa sb p m e → Kept sb sa p m (turned e)
+turned-kept sa sb p m e k =
+    let queues = queues-at m e k.own k.other k.own_seated.at k.other_seated.at in
+    record {
+      own = k.other;
+      other = k.own;
+      own_auto = k.other_auto;
+      other_auto = k.own_auto;
+      own_seated = k.other_seated;
+      other_seated = k.own_seated;
+      reached = subst (Reached sb sa) (sym (λ i. record {
+        a = end_of k.other_auto (ledger_at k.other.ledgers p);
+        b = end_of k.own_auto (ledger_at k.own.ledgers p);
+        to_a = only p (queues.incoming i);
+        to_b = only p (queues.outgoing i);
+      })) (reached-turned sa sb _ k.reached);
+    }
+
+-- the state of the two ends of a protocol on a link at the start is narrow
+pub start-narrow : (sa sb : Setup) → Narrow (start sa sb)
+start-narrow sa sb = record { of_a = omega arith; of_b = omega arith }
+
+-- ---- the steps
+
+happens-same : (what : Happens) (l word : ℕ) (e : Ends) → IsSame e (happens what l word e)
+unfolding happens
+happens-same what l word e = record { links = refl; ledgers = refl }
+
+front-same : (l word : ℕ) (o : Option (List Frame)) (e : Ends) → IsSame e (taking_front l word o e)
+front-same l word None e = record { links = refl; ledgers = refl }
+front-same l word (Some []) e = record { links = refl; ledgers = refl }
+front-same l word (Some (f ∷ rest)) e = record { links = refl; ledgers = refl }
+
+delivers-same : (l word : ℕ) (e : Ends) → IsSame e (delivers l word e)
+unfolding delivers
+delivers-same l word e = front-same l word (slice_get e.own.incoming (l - 1)) e
+
+loses-same : (l place : ℕ) (e : Ends) → IsSame e (loses l place e)
+unfolding loses
+loses-same l place e = record { links = refl; ledgers = refl }
+
+pub begins-kept : (sa sb : Setup) (p : Proto) (m : ℕ) (own other : List Link) (k j : Link) → slice_get own (m - 1) ≡ Some k → slice_get other (m - 1) ≡ Some j →
+    k ≡ link_ready k.tables → j ≡ link_ready j.tables → IsSpoken sa p k.tables → IsSpoken sb p j.tables → Kept sa sb p m (ends_begun own other)
+begins-kept sa sb p m own other k j there here ready steady spoken heard =
+    anew-kept sa sb p m (start sa sb) _ (start-narrow sa sb) (reached_start sa sb) (begins-came sa sb p m own other k j there here ready steady spoken heard)
+
+pub happens-kept : (sa sb : Setup) (p : Proto) (what : Happens) (l m word : ℕ) (e : Ends) (j : Link) (k : Kept sa sb p m e) → 1 ≤ l → 1 ≤ m → Narrow (duet_of k) → slice_get e.own.links (l - 1) ≡ Some j →
+    IsNoFrame what → AreShort (link_done what l j word).out → Kept sa sb p m (happens what l word e)
+happens-kept sa sb p what l m word e j k low least narrow there quiet short =
+    came-kept sa sb p m e _ k (happens-same what l word e) narrow
+    (happens-came sa sb p what l m word e k.own j k.own_auto (end_of k.other_auto (ledger_at k.other.ledgers p)) low least there quiet short k.own_seated.at k.own_seated.well k.own_seated.end)
+
+pub delivers-kept : (sa sb : Setup) (p : Proto) (l m word : ℕ) (e : Ends) (j : Link) (k : Kept sa sb p m e) → 1 ≤ l → 1 ≤ m → Narrow (duet_of k) → slice_get e.own.links (l - 1) ≡ Some j →
+    ((f : Frame) (rest : List Frame) → slice_get e.own.incoming (l - 1) ≡ Some (f ∷ rest) → AreShort (link_done (Takes f.octets) l j word).out) → Kept sa sb p m (delivers l word e)
+delivers-kept sa sb p l m word e j k low least narrow there short =
+    came-kept sa sb p m e _ k (delivers-same l word e) narrow
+    (delivers-came sa sb p l m word e k.own j k.own_auto (end_of k.other_auto (ledger_at k.other.ledgers p)) low least there short k.own_seated.at k.own_seated.well k.own_seated.end)
+
+pub loses-kept : (sa sb : Setup) (p : Proto) (l m place : ℕ) (e : Ends) (k : Kept sa sb p m e) → 1 ≤ l → 1 ≤ m → Narrow (duet_of k) → Kept sa sb p m (loses l place e)
+loses-kept sa sb p l m place e k low least narrow =
+    came-kept sa sb p m e _ k (loses-same l place e) narrow
+    (loses-came sa sb p l m place e k.own k.own_auto (end_of k.other_auto (ledger_at k.other.ledgers p)) low least k.own_seated.at k.own_seated.well k.own_seated.end)
+
+pub reboots-kept : (sa sb : Setup) (p : Proto) (m word : ℕ) (e : Ends) (k : Kept sa sb p m e) → 1 ≤ m → Narrow (duet_of k) → IsSpoken sa p k.own.link.tables → IsPhased k.other.link →
+    AreShort (link_done LineDown m k.other.link word).out → Kept sa sb p m (reboots word e)
+reboots-kept sa sb p m word e k least narrow spoken phased short =
+    anew-kept sa sb p m (duet_of k) _ narrow k.reached
+    (reboots-came sa sb p m word e k.own k.other k.own_auto k.other_auto least spoken phased short k.own_seated.at k.own_seated.end k.other_seated.at k.other_seated.well.settled k.other_seated.end)
