@@ -6,19 +6,18 @@ use Rattle.ppp_duet.specs.Duet.{Duet, End, Event, Happening, Setup, run, start}
 use Rattle.ppp_duet.specs.NarrowRun.{IsNarrowWhereTaken, NarrowIfTaken}
 use Rattle.ppp_duet.specs.Reached.{Reached}
 use Rattle.ppp_duet.specs.Span.{Narrow}
-use Rattle.ppp_duet.proofs.ReachedLemmas.{reached_more, reached_start}
+use Rattle.ppp_duet.proofs.ReachedLemmas.{reached_more, reached_on, reached_start}
 use Rattle.ppp_packet.specs.declared.proto.Proto.{Proto}
 use Rattle.ppp_link.specs.Link.{Link}
-use Rattle.ppp_station.specs.Phases.{IsPhased}
 use Rattle.ppp_station.specs.Station.{link_ready}
 use Rattle.ppp_station.specs.StationOut.{AreShort}
 use Rattle.ppp_station.specs.Steps.{Happening as Happens, LineDown, Takes, link_done}
-use Rattle.ppp_party.specs.Events.{DeliversFirst, HaveNoDelivery, IsNoDelivery, Makes}
+use Rattle.ppp_party.specs.Events.{DeliversFirst, HaveNoDelivery, IsNoDelivery, Leads, Makes}
 use Rattle.ppp_party.specs.Frame.{Frame, only}
 use Rattle.ppp_party.specs.Kept.{Kept, duet_of}
 use Rattle.ppp_party.specs.Ledger.{end_of, ledger_at}
 use Rattle.ppp_party.specs.Party.{Ends, delivers, ends_begun, happens, loses, reboots, taking_front, turned}
-use Rattle.ppp_party.specs.Seat.{Anew, Came, IsNoFrame, IsSpoken, Seat, SeatAt}
+use Rattle.ppp_party.specs.Seat.{Anew, Came, IsNoFrame, IsSpoken, Seat, SeatAt, rebooted}
 use Rattle.ppp_party.proofs.RebootLemmas.{begins-came, flip-one, flip-run, flipped, reboots-came}
 use Rattle.ppp_party.proofs.SeatLemmas.{delivers-came, happens-came, loses-came}
 
@@ -92,21 +91,24 @@ came-kept sa sb p m before after k same narrow came =
           outgoing = came.seated.well.incoming;
           few = omega (arith, came.fewer, few, ap length queues.outgoing);
         };
-        end = record { table = k.other_seated.end.table; auto = k.other_seated.end.auto; kept = k.other_seated.end.kept };
+        end = record { spoken = k.other_seated.end.spoken; auto = k.other_seated.end.auto; kept = k.other_seated.end.kept };
       };
       reached = reached-makes sa sb _ _ narrow came.makes k.reached;
     }
 
+pub reached-leads : (sa sb : Setup) (a b : Duet) → Leads sa sb a b → Reached sa sb a → Reached sa sb b
+reached-leads sa sb a b l reached = subst (Reached sa sb) l.leads (reached_more sa sb a l.events (none-taken sa sb l.events a l.none) reached)
+
 -- both ends as they begin, and one that begins anew
-pub anew-kept : (sa sb : Setup) (p : Proto) (m : ℕ) (d : Duet) (after : Ends) → Narrow d → Reached sa sb d → Anew sa sb p m d after → Kept sa sb p m after
-anew-kept sa sb p m d after narrow reached anew = record {
+pub anew-kept : (sa sb : Setup) (p : Proto) (m : ℕ) (d : Duet) (after : Ends) → Reached sa sb d → Anew sa sb p m d after → Kept sa sb p m after
+anew-kept sa sb p m d after reached anew = record {
   own = anew.own;
   other = anew.other;
   own_auto = anew.own_auto;
   other_auto = anew.other_auto;
   own_seated = anew.own_seated;
   other_seated = anew.other_seated;
-  reached = reached-makes sa sb d _ narrow anew.makes reached;
+  reached = reached-leads sa sb d _ anew.leads reached;
 }
 
 -- ---- seen from the other end
@@ -145,10 +147,6 @@ turned-kept sa sb p m e k =
       })) (reached-turned sa sb _ k.reached);
     }
 
--- the state of the two ends of a protocol on a link at the start is narrow
-pub start-narrow : (sa sb : Setup) → Narrow (start sa sb)
-start-narrow sa sb = record { of_a = omega arith; of_b = omega arith }
-
 -- ---- the steps
 
 happens-same : (what : Happens) (l word : ℕ) (e : Ends) → IsSame e (happens what l word e)
@@ -171,7 +169,7 @@ loses-same l place e = record { links = refl; ledgers = refl }
 pub begins-kept : (sa sb : Setup) (p : Proto) (m : ℕ) (own other : List Link) (k j : Link) → slice_get own (m - 1) ≡ Some k → slice_get other (m - 1) ≡ Some j →
     k ≡ link_ready k.tables → j ≡ link_ready j.tables → IsSpoken sa p k.tables → IsSpoken sb p j.tables → Kept sa sb p m (ends_begun own other)
 begins-kept sa sb p m own other k j there here ready steady spoken heard =
-    anew-kept sa sb p m (start sa sb) _ (start-narrow sa sb) (reached_start sa sb) (begins-came sa sb p m own other k j there here ready steady spoken heard)
+    anew-kept sa sb p m (start sa sb) _ (reached_start sa sb) (begins-came sa sb p m own other k j there here ready steady spoken heard)
 
 pub happens-kept : (sa sb : Setup) (p : Proto) (what : Happens) (l m word : ℕ) (e : Ends) (j : Link) (k : Kept sa sb p m e) → 1 ≤ l → 1 ≤ m → Narrow (duet_of k) → slice_get e.own.links (l - 1) ≡ Some j →
     IsNoFrame what → AreShort (link_done what l j word).out → Kept sa sb p m (happens what l word e)
@@ -190,8 +188,7 @@ loses-kept sa sb p l m place e k low least narrow =
     came-kept sa sb p m e _ k (loses-same l place e) narrow
     (loses-came sa sb p l m place e k.own k.own_auto (end_of k.other_auto (ledger_at k.other.ledgers p)) low least k.own_seated.at k.own_seated.well k.own_seated.end)
 
-pub reboots-kept : (sa sb : Setup) (p : Proto) (m word : ℕ) (e : Ends) (k : Kept sa sb p m e) → 1 ≤ m → Narrow (duet_of k) → IsSpoken sa p k.own.link.tables → IsPhased k.other.link →
-    AreShort (link_done LineDown m k.other.link word).out → Kept sa sb p m (reboots word e)
-reboots-kept sa sb p m word e k least narrow spoken phased short =
-    anew-kept sa sb p m (duet_of k) _ narrow k.reached
-    (reboots-came sa sb p m word e k.own k.other k.own_auto k.other_auto least spoken phased short k.own_seated.at k.own_seated.end k.other_seated.at k.other_seated.well.settled k.other_seated.end)
+pub reboots-kept : (sa sb : Setup) (p : Proto) (m word : ℕ) (e : Ends) (k : Kept sa sb p m e) → 1 ≤ m → AreShort (link_done LineDown m k.other.link word).out → Kept sa sb p m (reboots word e)
+reboots-kept sa sb p m word e k least short =
+    anew-kept sa sb p m (rebooted sa sb word (duet_of k)) _ (reached_on sa sb (duet_of k) (record { side = duet.A; what = duet.Reboots; word = word }) (λ same. absurd (cc)) k.reached)
+    (reboots-came sa sb p m word e k.own k.other k.own_auto k.other_auto least short k.own_seated.at k.own_seated.end k.other_seated.at k.other_seated.well.settled k.other_seated.end)

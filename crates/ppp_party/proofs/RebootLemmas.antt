@@ -21,6 +21,7 @@ use Rattle.ppp_link.specs.Steps as link
 use Rattle.ppp_station.specs.Orders.{Commands, SetsCap, is_net, obeys_all, of_link, of_run, orders, packets_in}
 use Rattle.ppp_station.specs.Phases.{IsPhased, IsUpWhere}
 use Rattle.ppp_station.specs.Steps.{LineDown, link_does, link_done}
+use Rattle.ppp_station.proofs.PhaseLemmas.{ready-phased}
 use Rattle.ppp_station.proofs.SignalLemmas.{all_caused, uncaused}
 use Rattle.ppp_station.specs.Station.{link_ready, on_link, opens_all}
 use Rattle.ppp_party.specs.Frame.{Frame, marked_frames, noted_frames, only, packets_for, seen}
@@ -29,11 +30,11 @@ use Rattle.ppp_duet.specs.Duet.{Did, Duet, End, Event, Marked, Setup, at_first, 
 use Rattle.ppp_party.specs.Events.{DeliversFirst, HaveNoDelivery, Leads, Makes}
 use Rattle.ppp_party.specs.Ledger.{Ledger, Ledgers, IsLedgerOf, end_of, first_id, ledger_at, ledger_begun, ledgers_begun, noted_all, stamped}
 use Rattle.ppp_party.specs.Party.{Ends, downs, happens, cleared, ends_begun, party_begun, posted, pushes_on, queued, reboots, room, turned, unheard}
-use Rattle.ppp_party.specs.Seat.{Anew, IsEnd, IsSettled, IsSpoken, IsWell, Seat, SeatAt, seat_duet, seat_happens}
+use Rattle.ppp_party.specs.Seat.{Anew, IsEnd, IsSettled, IsSpoken, IsWell, Seat, rebooted, SeatAt, seat_duet, seat_happens}
 use Rattle.ppp_party.proofs.LedgerLemmas.{commanded_kept, commanded_seen, packets_of, proper_command, read_all, sent_in}
 use Rattle.ppp_party.proofs.OrderLemmas.{at_own, duet_with, joined, orders-run}
 use Rattle.ppp_party.proofs.PostLemmas.{marked-frames, noted-frames}
-use Rattle.ppp_party.proofs.StepLemmas.{is-done, leads-makes}
+use Rattle.ppp_party.proofs.StepLemmas.{is-done}
 use Rattle.ppp_station.proofs.WovenLemmas.{done-tables}
 use Rattle.std.proofs.lemmas.Grind.{flat_map-append}
 use Rattle.ppp_station.specs.StationOut.{AreShort}
@@ -212,7 +213,7 @@ begun-auto t Bacp a is = begun-if bacp_table t.bacp a is
 
 ready-settled : (t : LinkTables) → IsSettled (link_ready t)
 unfolding opens_all
-ready-settled t = record { stands = refl; limit = refl }
+ready-settled t = record { stands = refl; limit = refl; phased = ready-phased t }
 
 ready-tables : (t : LinkTables) → (link_ready t).tables ≡ t
 unfolding opens_all
@@ -300,7 +301,7 @@ went-down sb p m word o b phased short end =
     let k = o.link in
     let did = obeys_all sb.table word (orders p LineDown k word) b in
     let down = goes-down p sb.table k word b phased end.auto in
-    let done = is-done sb p LineDown m word k b short end.table end.auto in
+    let done = is-done sb p LineDown m word k b short end.spoken.table end.auto in
     let frames = pushes_on m (link_done LineDown m k word).out in
     let g = ledger_at o.ledgers p in
     let silent : packets_for p frames ≡ [] = done.sent ∙ down.silent in
@@ -317,7 +318,7 @@ went-down sb p m word o b phased short end =
       auto = did.auto;
       is = down.auto;
       end = record {
-        table = end.table ∙ ap (λ t. table_of t p) (sym (done-tables LineDown m word k));
+        spoken = subst (IsSpoken sb p) (sym (done-tables LineDown m word k)) end.spoken;
         auto = done.auto;
         kept = subst (λ x. IsLedgerOf x (ledger_at (noted_frames (unheard o.ledgers) frames) p)) (sym down.auto)
             (subst (λ g. IsLedgerOf (with_cap cap (command sb.table b Down word).auto) g) (sym ledger) capped);
@@ -328,7 +329,7 @@ went-down sb p m word o b phased short end =
 
 -- the machine's event, and the cap behind it
 restarted : (sa sb : Setup) (p : Proto) (m word : ℕ) (o : Seat) (a : End) (b : Auto) (to_a to_b : List Marked) → IsLedgerOf b (ledger_at o.ledgers p) → (w : WentDown sb p m word o b) →
-    Leads sa sb (record { a = a; b = end_of b (ledger_at o.ledgers p); to_a = to_a; to_b = to_b })
+    Leads sa sb (rebooted sa sb word (record { a = a; b = end_of b (ledger_at o.ledgers p); to_a = to_a; to_b = to_b }))
     (duet_with (begun sa.table sa.first) ledger_begun (end_of w.auto (record (ledger_at o.ledgers p) { got = 0 })) [] [])
 unfolding at_first
 restarted sa sb p m word o a b to_a to_b kept w =
@@ -338,8 +339,8 @@ restarted sa sb p m word o a b to_a to_b kept w =
     let cap = cap_of (link.after o.link.tables Lcp (Commanded Down) word o.link.automata).lcp in
     let down = ap (λ (d : Did). d.end) (commanded_seen sb b clear Down word (record { ids = kept.ids; last = kept.last })) ∙ ap (λ ps. end_of acted.auto (noted_all clear ps)) (down-sends-none sb.table b word) in
     record {
-      events = at_own duet.Reboots word ∷ record { side = duet.B; what = duet.SetsCap cap; word = word } ∷ [];
-      none = (tt, (tt, tt));
+      events = record { side = duet.B; what = duet.SetsCap cap; word = word } ∷ [];
+      none = (tt, tt);
       leads = ap (λ (e : End). duet_with (begun sa.table sa.first) ledger_begun (record e { auto = with_cap cap e.auto }) [] []) down
           ∙ ap (λ x. duet_with (begun sa.table sa.first) ledger_begun (end_of x clear) [] []) (sym w.is);
     }
@@ -373,31 +374,30 @@ begun-end sa p t incoming spoken =
     let begun_is : spoken.auto ≡ begun (table_of t p) first_id = begun-auto t p spoken.auto spoken.there in
     let opened = begins-as sa sa p (end_of auto ledger_begun) [] [] spoken.first in
     record {
-      table = spoken.table ∙ ap (λ t. table_of t p) (sym (ready-tables t));
+      spoken = subst (IsSpoken sa p) (sym (ready-tables t)) spoken;
       auto = ready-auto t p ∙ ap (option_map (opened_anew p (table_of t p))) spoken.there ∙ ap (λ x. Some (opened_anew p (table_of t p) x)) begun_is
           ∙ ap (λ t. Some (opened_anew p t (begun t first_id))) (sym spoken.table);
       kept = subst (λ g. IsLedgerOf auto g) (sym (begun-at p)) opened.kept;
     }
 
-pub reboots-came : (sa sb : Setup) (p : Proto) (m word : ℕ) (e : Ends) (s o : Seat) (a b : Auto) → 1 ≤ m → IsSpoken sa p s.link.tables →
-    IsPhased o.link → AreShort (link_done LineDown m o.link word).out → SeatAt m e s → IsEnd sa p s a → SeatAt m (turned e) o → IsSettled o.link → IsEnd sb p o b →
-    Anew sa sb p m (seat_duet p a s (end_of b (ledger_at o.ledgers p))) (reboots word e)
+pub reboots-came : (sa sb : Setup) (p : Proto) (m word : ℕ) (e : Ends) (s o : Seat) (a b : Auto) → 1 ≤ m →
+    AreShort (link_done LineDown m o.link word).out → SeatAt m e s → IsEnd sa p s a → SeatAt m (turned e) o → IsSettled o.link → IsEnd sb p o b →
+    Anew sa sb p m (rebooted sa sb word (seat_duet p a s (end_of b (ledger_at o.ledgers p)))) (reboots word e)
 unfolding reboots
-reboots-came sa sb p m word e s o a b low spoken phased short own_at own_end other_at settled other_end =
+reboots-came sa sb p m word e s o a b low short own_at own_end other_at settled other_end =
     let n = length e.other.links in
     let start : Ends = record { own = cleared e.other; other = party_begun (map (λ k. link_ready k.tables) e.own.links) } in
     let t = s.link.tables in
     let within = slice_get_within e.other.links (m - 1) o.link other_at.link in
     let after = downs-by n 1 word m start (silenced o) (omega arith) low (omega (arith, within)) (omega arith) (silenced-at m e s o own_at other_at) (same-or m 1) in
-    let w = went-down sb p m word o b phased short other_end in
+    let w = went-down sb p m word o b settled.phased short other_end in
     let now = seat_happens LineDown m word (silenced o) in
     let well = happens-well LineDown m word (silenced o) tt short (record { settled = settled; incoming = tt; outgoing = tt; few = omega arith }) in
     let own : Seat = record { link = link_ready t; ledgers = ledgers_begun; incoming = now.outgoing; outgoing = [] } in
     let same = downs-other n 1 word start in
     let auto = opened_anew p sa.table (begun sa.table first_id) in
-    let opened = begins-as sa sb p (end_of w.auto (record (ledger_at o.ledgers p) { got = 0 })) [] [] spoken.first in
+    let opened = begins-as sa sb p (end_of w.auto (record (ledger_at o.ledgers p) { got = 0 })) [] [] own_end.spoken.first in
     let all = joined sa sb _ _ _ (restarted sa sb p m word o (end_of a (ledger_at s.ledgers p)) b (only p s.incoming) (only p s.outgoing) other_end.kept w) opened.leads in
-    let makes = leads-makes sa sb _ _ all in
     record {
       own = own;
       other = now;
@@ -411,13 +411,13 @@ reboots-came sa sb p m word e s o a b low spoken phased short own_at own_end oth
           outgoing = after.incoming;
         };
         well = record { settled = ready-settled t; incoming = well.outgoing; outgoing = tt; few = omega arith };
-        end = begun-end sa p t now.outgoing spoken;
+        end = begun-end sa p t now.outgoing own_end.spoken;
       };
       other_seated = record { at = after; well = well; end = w.end };
-      makes = record {
-        events = makes.events;
-        first = makes.first;
-        leads = makes.leads ∙ sym (λ i. duet_with auto (begun-at p i) (end_of w.auto (w.ledger i)) (w.quiet i) []);
+      leads = record {
+        events = all.events;
+        none = all.none;
+        leads = all.leads ∙ sym (λ i. duet_with auto (begun-at p i) (end_of w.auto (w.ledger i)) (w.quiet i) []);
       };
     }
 
@@ -480,7 +480,6 @@ begins-came sa sb p m own other k j there here ready steady spoken heard =
     let one = begins-as sa sb p (duet.end_begun sb) [] [] spoken.first in
     let two = begins-as sb sa p (end_of a ledger_begun) [] [] heard.first in
     let all = joined sa sb (duet.start sa sb) (duet_with a ledger_begun (duet.end_begun sb) [] []) (duet_with a ledger_begun (end_of b ledger_begun) [] []) one.leads (turned-leads sb sa _ _ two.leads) in
-    let makes = leads-makes sa sb _ _ all in
     record {
       own = seat_begun k.tables [];
       other = seat_begun j.tables [];
@@ -488,5 +487,5 @@ begins-came sa sb p m own other k j there here ready steady spoken heard =
       other_auto = b;
       own_seated = record { at = seat-begun m own other k j there here ready; well = well-begun k.tables; end = begun-end sa p k.tables [] spoken };
       other_seated = record { at = seat-begun m other own j k here there steady; well = well-begun j.tables; end = begun-end sb p j.tables [] heard };
-      makes = record { events = makes.events; first = makes.first; leads = makes.leads ∙ sym (λ i. duet_with a (begun-at p i) (end_of b (begun-at p i)) [] []) };
+      leads = record { events = all.events; none = all.none; leads = all.leads ∙ sym (λ i. duet_with a (begun-at p i) (end_of b (begun-at p i)) [] []) };
     }

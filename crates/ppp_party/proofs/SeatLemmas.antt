@@ -17,6 +17,8 @@ use Rattle.ppp_station.specs.Station.{on_link, stepped_by}
 use Rattle.ppp_station.specs.StationOut.{AreShort, Got}
 use Rattle.ppp_station.specs.Steps.{Done, Happening, LineUp, LineDown, Opens, Closes, TimesOut, Takes, and_tells, is_opened_at, link_does, link_done, opener_of, runs, works, works_one}
 use Rattle.ppp_station.proofs.StationLemmas.{other-links, own-link}
+use Rattle.ppp_station.specs.Phases.{IsPhased}
+use Rattle.ppp_station.proofs.PhaseLemmas.{done-phased}
 use Rattle.ppp_party.specs.Frame.{Frame, carried, marked_frames, noted_by, noted_frames}
 use Rattle.ppp_party.specs.Ledger.{Ledgers}
 use Rattle.ppp_party.specs.Party.{Ends, at_link, delivers, happens, heard_on, loses, posted, pushes_on, queued, room, taking_front, with_heard}
@@ -78,10 +80,10 @@ takes-so octets k word sent settled =
       limit = ap (λ xs. (feed_step d xs).left.reader.limit) sent.is ∙ ap (λ r. r.limit) again.1 ∙ settled.limit;
     }
 
-settled-so : (what : Happening) (l word : ℕ) (k : Link) → StandsSo (link_does what k word).link.deframer → IsSettled (link_done what l k word).link
-settled-so what l word k so =
+settled-so : (what : Happening) (l word : ℕ) (k : Link) → IsPhased k → StandsSo (link_does what k word).link.deframer → IsSettled (link_done what l k word).link
+settled-so what l word k phased so =
     let same = done-deframer what l word k in
-    record { stands = ap (λ d. d.standing) same ∙ so.stands; limit = ap (λ d. d.reader.limit) same ∙ so.limit }
+    record { stands = ap (λ d. d.standing) same ∙ so.stands; limit = ap (λ d. d.reader.limit) same ∙ so.limit; phased = done-phased what l word k phased }
 
 -- ---- what stays so on a link
 
@@ -106,27 +108,27 @@ sent-marked : (gs : Ledgers) (mark : ℕ) (frames : List (List ℕ)) → AllByRe
 sent-marked gs mark [] sent = tt
 sent-marked gs mark (octets ∷ more) sent = (sent.0, sent-marked (noted_by gs (carried octets)) mark more sent.1)
 
-well-posted : (what : Happening) (l word mark : ℕ) (s : Seat) → AreShort (link_done what l s.link word).out → StandsSo (link_does what s.link word).link.deframer →
+well-posted : (what : Happening) (l word mark : ℕ) (s : Seat) → AreShort (link_done what l s.link word).out → IsPhased s.link → StandsSo (link_does what s.link word).link.deframer →
     AreSent s.incoming → AreSent s.outgoing → IsWell (seat_posted mark l (link_done what l s.link word) s)
-well-posted what l word mark s short so incoming outgoing =
+well-posted what l word mark s short phased so incoming outgoing =
     let done = link_done what l s.link word in
     let frames = pushes_on l done.out in
     let sent = marked_frames s.ledgers mark frames in
     let all = AllByRecursion-append (λ f. IsSent f.octets) s.outgoing sent outgoing (sent-marked s.ledgers mark frames (pushes-sent l done.out (done-framed what l word s.link) short)) in
     record {
-      settled = settled-so what l word s.link so;
+      settled = settled-so what l word s.link phased so;
       incoming = incoming;
       outgoing = sent-take room (s.outgoing ++ sent) all;
       few = omega (arith, length-take room (s.outgoing ++ sent));
     }
 
 pub happens-well : (what : Happening) (l word : ℕ) (s : Seat) → IsNoFrame what → AreShort (link_done what l s.link word).out → IsWell s → IsWell (seat_happens what l word s)
-happens-well what l word s quiet short well = well-posted what l word 0 s short (does-so what s.link word quiet well.settled) well.incoming well.outgoing
+happens-well what l word s quiet short well = well-posted what l word 0 s short well.settled.phased (does-so what s.link word quiet well.settled) well.incoming well.outgoing
 
 pub taking-well : (l word : ℕ) (f : Frame) (rest : List Frame) (s : Seat) → s.incoming ≡ f ∷ rest → AreShort (link_done (Takes f.octets) l s.link word).out → IsWell s → IsWell (seat_taking l word f rest s)
 taking-well l word f rest s front short well =
     let sent : AreSent (f ∷ rest) = rw front at well.incoming in
-    well-posted (Takes f.octets) l word f.mark (record s { ledgers = heard_on s.link f word s.ledgers; incoming = rest }) short (takes-so f.octets s.link word sent.0 well.settled) sent.1 well.outgoing
+    well-posted (Takes f.octets) l word f.mark (record s { ledgers = heard_on s.link f word s.ledgers; incoming = rest }) short well.settled.phased (takes-so f.octets s.link word sent.0 well.settled) sent.1 well.outgoing
 
 pub loses-well : (place : ℕ) (s : Seat) → IsWell s → IsWell (seat_loses place s)
 loses-well place s well = record { settled = well.settled; incoming = sent-without place s.incoming well.incoming; outgoing = well.outgoing; few = well.few }

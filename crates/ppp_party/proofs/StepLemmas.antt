@@ -36,7 +36,7 @@ use Rattle.ppp_party.specs.Events.{HaveNoDelivery, DeliversFirst, Leads, Makes}
 use Rattle.ppp_party.specs.Frame.{Carried, Frame, carried, carried_as, carried_by, marked_for, marked_frames, noted_frames, only, packet_for, packets_for, seen}
 use Rattle.ppp_party.specs.Ledger.{Ledger, Ledgers, IsLedgerOf, end_of, heard, ledger_at, noted_all, stamped}
 use Rattle.ppp_party.specs.Party.{heard_by, heard_on, heard_packet, pushes_on}
-use Rattle.ppp_party.specs.Seat.{IsEnd, IsNoFrame, IsSent, IsSettled, Seat, seat_duet, seat_happens, seat_loses, seat_posted, seat_taking}
+use Rattle.ppp_party.specs.Seat.{IsEnd, IsSpoken, IsNoFrame, IsSent, IsSettled, Seat, seat_duet, seat_happens, seat_loses, seat_posted, seat_taking}
 use Rattle.ppp_party.proofs.LedgerLemmas.{read_all, read_one}
 use Rattle.ppp_party.proofs.OrderLemmas.{AllByRecursion-append, BringsNone, at_own, duet_with, frame-run, joined, orders-run}
 use Rattle.ppp_party.proofs.PostLemmas.{marked-frames, noted-frames, number-some, of-info, pushes-packets, queued-leads}
@@ -200,11 +200,11 @@ is-done sa p what l word k a short table auto =
     }
 
 post : (sa sb : Setup) (p : Proto) (what : Happening) (l word mark : ℕ) (old s : Seat) (a : Auto) (b : End) (did : Obeyed) →
-    IsDone sa p l word s.link what did → sa.table ≡ table_of s.link.tables p →
+    IsDone sa p l word s.link what did → IsSpoken sa p s.link.tables →
     IsLedgerOf did.auto (noted_all (ledger_at s.ledgers p) (read_all did.sent)) →
     Makes sa sb (seat_duet p a old b) (duet_with did.auto (noted_all (ledger_at s.ledgers p) (read_all did.sent)) b (only p s.incoming) (only p s.outgoing ++ stamped (ledger_at s.ledgers p) mark (read_all did.sent))) →
     SeatMakes sa sb p old (seat_posted mark l (link_done what l s.link word) s) a b
-post sa sb p what l word mark old s a b did is table kept makes =
+post sa sb p what l word mark old s a b did is spoken kept makes =
     let done = link_done what l s.link word in
     let frames = pushes_on l done.out in
     let g = ledger_at s.ledgers p in
@@ -218,7 +218,7 @@ post sa sb p what l word mark old s a b did is table kept makes =
     record {
       auto = did.auto;
       end = record {
-        table = table ∙ ap (λ t. table_of t p) (sym (done-tables what l word s.link));
+        spoken = subst (IsSpoken sa p) (sym (done-tables what l word s.link)) spoken;
         auto = is.auto;
         kept = subst (λ g. IsLedgerOf did.auto g) ledger kept;
       };
@@ -235,7 +235,7 @@ happens-makes sa sb p what l word s a b quiet short end =
     let os = orders p what k word in
     let none = none-append (of_link p what k word) (all_caused p (link_does what k word).out) (link-none p what k word quiet) (all-none p (link_does what k word).out) in
     let obeys = orders-run sa sb a (ledger_at s.ledgers p) 0 word b (only p s.incoming) (only p s.outgoing) os none end.kept in
-    post sa sb p what l word 0 s s a b (obeys_all sa.table word os a) (is-done sa p what l word k a short end.table end.auto) end.table obeys.kept (leads-makes sa sb _ _ obeys.events)
+    post sa sb p what l word 0 s s a b (obeys_all sa.table word os a) (is-done sa p what l word k a short end.spoken.table end.auto) end.spoken obeys.kept (leads-makes sa sb _ _ obeys.events)
 
 -- ---- the front frame is taken
 
@@ -362,7 +362,7 @@ taking-makes sa sb p l word f rest s a b front settled sent short end =
     let took = took sa sb p word f rest s a b settled sent end in
     let queue : seat_duet p a s b ≡ duet_with a (ledger_at s.ledgers p) b (seen p f ++ only p rest) (only p s.outgoing) = ap (λ frames. duet_with a (ledger_at s.ledgers p) b (only p frames) (only p s.outgoing)) front in
     let heard : Seat = record s { ledgers = heard_on k f word s.ledgers; incoming = rest } in
-    post sa sb p (Takes f.octets) l word f.mark s heard a b did (is-done sa p (Takes f.octets) l word k a short end.table end.auto) end.table took.kept
+    post sa sb p (Takes f.octets) l word f.mark s heard a b did (is-done sa p (Takes f.octets) l word k a short end.spoken.table end.auto) end.spoken took.kept
     (record { events = took.makes.events; first = took.makes.first; leads = ap (run sa sb took.makes.events) queue ∙ took.makes.leads })
 
 -- ---- a frame is lost
@@ -409,7 +409,7 @@ loses-makes sa sb p place s a b end =
     let less = less-without p place s.incoming in
     record {
       auto = a;
-      end = record { table = end.table; auto = end.auto; kept = end.kept };
+      end = record { spoken = end.spoken; auto = end.auto; kept = end.kept };
       makes = record {
         events = at_own (duet.Loses less.0) 0 ∷ [];
         first = tt;

@@ -3,6 +3,7 @@
 use Rattle.std.specs.Prelude.{◌≡◌, ℕ, ◌+◌, ◌-◌, ◌≤◌, ⊤, List, [], ◌∷◌, length, Some, slice_get}
 use Rattle.std.specs.List.{AllByRecursion}
 use Rattle.ppp_auto.specs.Auto.{Auto}
+use Rattle.ppp_duet.specs.Duet as duet
 use Rattle.ppp_duet.specs.Duet.{Duet, End, Setup, without}
 use Rattle.ppp_frame.specs.declared.form.Form.{Form}
 use Rattle.ppp_frame.specs.Frame.{enc}
@@ -13,8 +14,9 @@ use Rattle.ppp_link.specs.Automata.{auto_at, automata_begun}
 use Rattle.ppp_link.specs.Link.{Link}
 use Rattle.ppp_link.specs.LinkTables.{LinkTables, table_of}
 use Rattle.ppp_link.specs.declared.link.TheConstants.{MOST_FRAME}
+use Rattle.ppp_station.specs.Phases.{IsPhased}
 use Rattle.ppp_station.specs.Steps.{Done, Happening, LineUp, LineDown, Opens, Closes, TimesOut, Takes, link_done}
-use Rattle.ppp_party.specs.Events.{Makes}
+use Rattle.ppp_party.specs.Events.{Leads, Makes}
 use Rattle.ppp_party.specs.Frame.{Frame, marked_frames, noted_frames, only}
 use Rattle.ppp_party.specs.Ledger.{Ledgers, IsLedgerOf, end_of, ledger_at, first_id}
 use Rattle.ppp_party.specs.Party.{Ends, heard_on, pushes_on, queued, room, turned}
@@ -79,10 +81,11 @@ pub record IsSent (octets : List ℕ) : Type 0 where
 abbrev pub AreSent : List Frame → Type 0
 AreSent frames = AllByRecursion (λ f. IsSent f.octets) frames
 
--- between two frames the deframer stands as after a flag
+-- between two frames the deframer stands as after a flag, and control protocols are Up exactly while LCP is Opened
 pub record IsSettled (k : Link) : Type 0 where
   pub stands : k.deframer.standing ≡ fresh
   pub limit : k.deframer.reader.limit ≡ MOST_FRAME
+  pub phased : IsPhased k
 
 pub record IsWell (s : Seat) : Type 0 where
   pub settled : IsSettled s.link
@@ -92,9 +95,16 @@ pub record IsWell (s : Seat) : Type 0 where
 
 -- ---- the two ends of a protocol
 
+-- an end of that table begins with the first Identifier, and the protocol is configured among these tables
+pub record IsSpoken (sa : Setup) (p : Proto) (t : LinkTables) : Type 0 where
+  pub first : sa.first ≡ first_id
+  pub table : sa.table ≡ table_of t p
+  pub auto : Auto
+  pub there : auto_at (automata_begun t) p ≡ Some auto
+
 -- the end of a protocol on the link, with that automaton
 pub record IsEnd (sa : Setup) (p : Proto) (s : Seat) (a : Auto) : Type 0 where
-  pub table : sa.table ≡ table_of s.link.tables p
+  pub spoken : IsSpoken sa p s.link.tables
   pub auto : auto_at s.link.automata p ≡ Some a
   pub kept : IsLedgerOf a (ledger_at s.ledgers p)
 
@@ -118,7 +128,7 @@ pub record Came (sa sb : Setup) (p : Proto) (m : ℕ) (s : Seat) (a : Auto) (b :
   pub makes : Makes sa sb (seat_duet p a s b) (seat_duet p auto seat b)
 
 -- What it came to that both ends began, or one of them anew: the link at both as it is then, the automata of the protocol, and a
--- list of the two ends' events that leads there.
+-- list of the two ends' events that leads there and delivers nothing.
 pub record Anew (sa sb : Setup) (p : Proto) (m : ℕ) (before : Duet) (after : Ends) : Type 0 where
   pub own : Seat
   pub other : Seat
@@ -126,11 +136,8 @@ pub record Anew (sa sb : Setup) (p : Proto) (m : ℕ) (before : Duet) (after : E
   pub other_auto : Auto
   pub own_seated : IsSeated sa p m after own own_auto
   pub other_seated : IsSeated sb p m (turned after) other other_auto
-  pub makes : Makes sa sb before (seat_duet p own_auto own (end_of other_auto (ledger_at other.ledgers p)))
+  pub leads : Leads sa sb before (seat_duet p own_auto own (end_of other_auto (ledger_at other.ledgers p)))
 
--- an end of that table begins with the first Identifier, and the protocol is configured among these tables
-pub record IsSpoken (sa : Setup) (p : Proto) (t : LinkTables) : Type 0 where
-  pub first : sa.first ≡ first_id
-  pub table : sa.table ≡ table_of t p
-  pub auto : Auto
-  pub there : auto_at (automata_begun t) p ≡ Some auto
+-- the two ends' event that the first begins anew
+abbrev pub rebooted : Setup → Setup → ℕ → Duet → Duet
+rebooted sa sb word d = duet.happens sa sb d (record { side = duet.A; what = duet.Reboots; word = word })

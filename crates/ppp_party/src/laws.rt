@@ -7,14 +7,13 @@ ghost use Rattle.ppp_duet.specs.Span.{Narrow};
 ghost use Rattle.ppp_link.specs.Link.{Link};
 ghost use Rattle.ppp_packet.specs.declared.proto.Proto.{Proto};
 ghost use Rattle.ppp_station.specs.StationOut.{AreShort};
-ghost use Rattle.ppp_station.specs.Phases.{IsPhased};
 ghost use Rattle.ppp_station.specs.Station.{IsReady};
 ghost use Rattle.ppp_station.specs.Steps.{Happening, LineDown, Takes, link_done};
 ghost use Rattle.ppp_party.specs.Frame.{Frame};
 ghost use Rattle.ppp_party.specs.Kept.{Kept, duet_of};
 ghost use Rattle.ppp_party.specs.Ledger.{end_of, ledger_at};
 ghost use Rattle.ppp_party.specs.Party.{Ends, delivers, ends_begun, happens, loses, reboots, turned};
-ghost use Rattle.ppp_party.specs.Seat.{Anew, Came, IsNoFrame, IsSeated, IsSpoken, Seat, seat_duet};
+ghost use Rattle.ppp_party.specs.Seat.{Anew, Came, IsNoFrame, IsSeated, IsSpoken, Seat, rebooted, seat_duet};
 
 /// Does nothing. Its clauses are laws. Of each, let a protocol be configured on a link of the end, its ledger fit its automaton,
 /// the link's deframer stand as after a flag, and what is under way on the link be frames of control protocols. Then so it is
@@ -23,7 +22,8 @@ ghost use Rattle.ppp_party.specs.Seat.{Anew, Came, IsNoFrame, IsSeated, IsSpoken
 ///
 /// - `happens`: the line comes up or goes down, an administrator opens or closes a protocol, or a timer fires, on whatever link.
 ///   A frame that finds its queue full is sent and lost.
-/// - `delivers`: the front frame of whatever link is taken. For each protocol it is a delivery, the loss of a packet, or nothing.
+/// - `delivers`: the front frame of whatever link is taken. For the protocol the list begins with a delivery or with the loss of
+///   a packet, or with neither; what the packet causes at this protocol or another follows.
 /// - `loses`: a frame of whatever link is lost.
 ///
 /// No frame that the event sends is longer than the longest, as a station's never is.
@@ -46,18 +46,18 @@ pub fn events()
 ///
 /// - `begins`: both ends as they begin are led to from the start of two ends by a list of events that delivers nothing.
 /// - `reboots`: one end begins anew. For the protocol that is the two ends' event of that name, and then more that deliver
-///   nothing. It holds where the control protocols of the other end's link are Up exactly while LCP is Opened there, as they
-///   always are.
+///   nothing.
+///
+/// No frame that the other end's line going down sends is longer than the longest, as a station's never is.
 pub fn anew()
     ensures begins { (sa sb : Setup) (p : Proto) (m : ℕ) (own other : List Link) (k j : Link)
         → slice_get own (m - 1) ≡ Some k → slice_get other (m - 1) ≡ Some j
         → IsReady k → IsReady j → IsSpoken sa p k.tables → IsSpoken sb p j.tables
         → Anew sa sb p m (start sa sb) (ends_begun own other) }
     ensures reboots { (sa sb : Setup) (p : Proto) (m word : ℕ) (e : Ends) (s o : Seat) (a b : Auto)
-        → 1 ≤ m → IsSpoken sa p s.link.tables
-        → IsPhased o.link → AreShort (link_done LineDown m o.link word).out
+        → 1 ≤ m → AreShort (link_done LineDown m o.link word).out
         → IsSeated sa p m e s a → IsSeated sb p m (turned e) o b
-        → Anew sa sb p m (seat_duet p a s (end_of b (ledger_at o.ledgers p))) (reboots word e) }
+        → Anew sa sb p m (rebooted sa sb word (seat_duet p a s (end_of b (ledger_at o.ledgers p)))) (reboots word e) }
 {}
 
 /// Does nothing. Its clauses are laws on what holds of a protocol that is configured on a link at both ends: a list of the two
@@ -65,7 +65,8 @@ pub fn anew()
 /// 255. So the laws on two ends hold there.
 ///
 /// - `begins`: it holds of both ends as they begin.
-/// - `happens`, `delivers`, `loses`, `reboots`: it holds after each event at an end, on whatever link, if no span was wider before.
+/// - `happens`, `delivers`, `loses`, `reboots`: it holds after each event at an end, on whatever link, if no span was wider before
+///   and no frame that the event sends is longer than the longest.
 /// - `turned`: what holds of the two ends holds of them as the other sees it, so events at the other end keep it too.
 pub fn kept()
     ensures begins { (sa sb : Setup) (p : Proto) (m : ℕ) (own other : List Link) (k j : Link)
@@ -84,8 +85,7 @@ pub fn kept()
     ensures loses { (sa sb : Setup) (p : Proto) (l m place : ℕ) (e : Ends) (k : Kept sa sb p m e)
         → 1 ≤ l → 1 ≤ m → Narrow (duet_of k) → Kept sa sb p m (loses l place e) }
     ensures reboots { (sa sb : Setup) (p : Proto) (m word : ℕ) (e : Ends) (k : Kept sa sb p m e)
-        → 1 ≤ m → Narrow (duet_of k) → IsSpoken sa p k.own.link.tables
-        → IsPhased k.other.link → AreShort (link_done LineDown m k.other.link word).out
+        → 1 ≤ m → AreShort (link_done LineDown m k.other.link word).out
         → Kept sa sb p m (reboots word e) }
     ensures turned { (sa sb : Setup) (p : Proto) (m : ℕ) (e : Ends) → Kept sa sb p m e → Kept sb sa p m (turned e) }
 {}

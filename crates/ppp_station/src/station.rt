@@ -1,14 +1,16 @@
 //! A station.
 
-ghost use Rattle.std.specs.Prelude.{◌≡◌, ◌+◌, ◌-◌, ◌≤◌, ◌++◌, ◌∷◌, [], length, map, IfOk, OnOk, Some, slice_get};
+ghost use Rattle.std.specs.Prelude.{◌≡◌, ◌+◌, ◌*◌, ◌-◌, ◌≤◌, ◌++◌, ◌∷◌, [], length, map, IfOk, OnOk, Some, slice_get};
 ghost use Rattle.std.specs.List.{AllByRecursion};
 ghost use Rattle.ppp_conf.specs.EndConfig.{end_seen};
 ghost use Rattle.ppp_link.specs.LinkSettings.{settings_of};
 ghost use Rattle.ppp_link.specs.LinkTables.{tables_seen};
 ghost use Rattle.ppp_station.specs.Station.{all_settings, held_in, link_ready, on_link, opens_all, settings_in, station_does, IsOfLink, IsOfLinks, IsReady, IsUsedOf};
-ghost use Rattle.ppp_station.specs.StationOut.{AreShort};
+ghost use Rattle.ppp_station.specs.StationOut.{all_octets, AreShort};
 ghost use Rattle.ppp_station.specs.Steps.{happening_seen, IsUsed};
+ghost use Rattle.ppp_link.specs.declared.link.TheConstants.{MOST_FRAME};
 ghost use Rattle.ppp_station.specs.declared.station.TheConstants.{CONTROLS, MOST_LINKS};
+ghost use Rattle.ppp_station.specs.declared.station_out.TheConstants.{MOST_ENTRIES, MOST_OCTETS};
 
 use crate::happening::{Happening, happen};
 use crate::station_event::StationEvent;
@@ -72,6 +74,8 @@ impl Station {
         ensures out { out.new ≡ (station_does ev.entry self.old word).out }
         ensures short { AreShort out.new.entries }
         ensures used { IsUsedOf ev.entry out.new.used }
+        ensures few { length out.new.entries ≤ MOST_ENTRIES }
+        ensures room { all_octets out.new.entries ≤ MOST_OCTETS }
     {
         match ev {
             StationEvent::Up(link) => self.happens(link, Happening::LineUp, word, out),
@@ -113,7 +117,8 @@ impl Station {
 
     /// The octets that are kept of unfinished frames, escapes undone.
     pub fn held(&self) -> usize
-        ensures { result ≡ held_in self.now }
+        ensures value { result ≡ held_in self.now }
+        ensures limit { result ≤ length self.now * MOST_FRAME }
     {
         let mut held = 0;
         for i in 0..self.links.len() {
@@ -129,6 +134,8 @@ impl Station {
         ensures out { out.new ≡ (on_link (happening_seen what.entry) number self.old word).out }
         ensures short { AreShort out.new.entries }
         ensures used { IsUsed (happening_seen what.entry) out.new.used }
+        ensures few { length out.new.entries ≤ MOST_ENTRIES }
+        ensures room { all_octets out.new.entries ≤ MOST_OCTETS }
     {
         out.clear();
         let link = &mut self.links[usize::from(number) - 1];

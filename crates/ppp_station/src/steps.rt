@@ -33,6 +33,8 @@ pub(crate) fn work(
     requires room { all_octets out.old.entries + MOST_AFTER_FRAME * MOST_CAUSED ≤ MOST_OCTETS }
     ensures done { so_far link.new out.new.entries ≡ works number word told.now (so_far link.old out.old.entries) }
     ensures used { out.new.used ≡ out.old.used }
+    ensures few { length out.new.entries ≤ MOST_ENTRIES }
+    ensures octets { all_octets out.new.entries ≤ MOST_OCTETS }
 {
     for i in 0..told.count() {
         work_one(link, number, word, told.at(i), nets, out);

@@ -63,6 +63,37 @@ fn each_protocol_opens(rt: HostRuntime) -> Result<(), Fail> {
 }
 
 #[test]
+fn datagrams_want_their_protocol(rt: HostRuntime) -> Result<(), Fail> {
+    let datagrams = [
+        Step::Frame(2, 0x0021, &[0x45, 0]),
+        Step::Frame(2, 0x0057, &[0x60]),
+        Step::Frame(2, 0x0023, &[1]),
+        Step::Frame(2, 0x0281, &[2]),
+        Step::Frame(2, 0x0283, &[3]),
+    ];
+    let closing = [
+        Step::A(AdminClose(2, Proto::Ipv6)),
+        Step::A(AdminClose(2, Proto::Mpls)),
+        Step::Frame(2, 0x0021, &[0x45, 0]),
+        Step::Frame(2, 0x0057, &[0x60]),
+        Step::Frame(2, 0x0281, &[2]),
+    ];
+    check(
+        rt.alloc(),
+        &rt,
+        ALL,
+        OPENING,
+        &[
+            (
+                &datagrams,
+                "got None 0021 4500; got None 0057 60; got None 0281 02; ",
+            ),
+            (&closing, "got None 0021 4500; "),
+        ],
+    )
+}
+
+#[test]
 fn goes_through_its_phases(rt: HostRuntime) -> Result<(), Fail> {
     let datagram = Step::Frame(2, 0x0021, &[0x45, 0]);
     let unknown = Step::Frame(2, 0x8001, &[1, 2, 3]);
