@@ -1,5 +1,5 @@
--- When the automata of a link are Up (RFC 1661 section 3): LCP's goes by the line; that of a network control protocol is Up
--- exactly while LCP is Opened; BACP's is never Up on a link that is in no bundle.
+-- When the automata of a link above LCP are Up (RFC 1661 section 3): that of a network control protocol exactly while LCP is
+-- Opened, BACP's never on a link that is in no bundle.
 use Rattle.std.specs.Prelude.{◌≡◌, ◌≢◌, Bool, ◌&&◌, not, Option, Some, None}
 use Rattle.ppp_auto.specs.Auto.{Auto, is_off, is_opened}
 use Rattle.ppp_packet.specs.declared.proto.Proto.{Proto}
