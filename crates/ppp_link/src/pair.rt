@@ -1,5 +1,7 @@
 //! Two links that talk, for tests: steps, and the text that comes of them.
 
+ghost use Rattle.std.specs.Prelude.{◌≤◌};
+
 use crate::{Link, LinkEntry, LinkOut};
 use ppp_conf::{EndConfig, read_config};
 use ppp_frame::{Deframer, Form, FrameBuf, encode};
@@ -35,6 +37,8 @@ pub(crate) enum Call {
     Close(Proto),
     Timeout(Proto),
     Run(bool),
+    /// The same with BACP.
+    RunAll(bool),
 }
 
 /// A step: what it makes is written into the text, each entry with `; ` behind it.
@@ -49,6 +53,8 @@ pub(crate) enum Step<'a> {
     Octets(&'a [u8]),
     /// A frame with whole headers comes.
     Frame(u16, &'a [u8]),
+    /// Frames of LCP come, one after another.
+    Frames(&'a [&'a [u8]]),
     /// A datagram of IPv4 comes, 45 and 00, without address and control or with a short protocol.
     Datagram(bool, bool),
     /// Writes the frames of a's last call as they are.
@@ -66,10 +72,18 @@ pub(crate) enum Step<'a> {
     Reset,
 }
 
-/// An end of these settings with its first link.
-pub(crate) fn make_end(alloc: Global, config: &EndConfig, word: u64) -> Result<End, Fail> {
+/// An end of these settings with the link of that number, 1 to 16.
+pub(crate) fn make_end(
+    alloc: Global,
+    config: &EndConfig,
+    number: u8,
+    word: u64,
+) -> Result<End, Fail>
+    requires least { 1 ≤ number }
+    requires most { number ≤ 16 }
+{
     Ok(End {
-        link: Link::new(alloc, config, 1)?,
+        link: Link::new(alloc, config, number)?,
         word,
         out: LinkOut::new(alloc)?,
         line: Vec::new(alloc),
@@ -81,8 +95,8 @@ pub(crate) fn make_pair(alloc: Global, settings: &str) -> Result<Pair, Fail> {
     let text = format!(in alloc; "version = 2\n{settings}")?;
     let config = read_config(alloc, text.as_bytes())?;
     Ok(Pair {
-        a: make_end(alloc, &config.a, 4)?,
-        b: make_end(alloc, &config.b, 9)?,
+        a: make_end(alloc, &config.a, 1, 4)?,
+        b: make_end(alloc, &config.b, 1, 9)?,
         text: String::new(alloc),
     })
 }
@@ -113,6 +127,7 @@ pub(crate) fn act(end: &mut End, call: Call) {
         Call::Close(proto) => end.link.admin_close(proto, word, &mut end.out),
         Call::Timeout(proto) => end.link.timeout(proto, word, &mut end.out),
         Call::Run(on) => end.link.run_ncps(on, false, word, &mut end.out),
+        Call::RunAll(on) => end.link.run_ncps(on, true, word, &mut end.out),
     }
 }
 
@@ -308,6 +323,19 @@ pub(crate) fn escaped(ac: bool, pf: bool) -> Form {
     }
 }
 
+/// Frames of LCP come to an end, and the entries of each are written.
+pub(crate) fn hear_frames(
+    alloc: Global,
+    end: &mut End,
+    packets: &[&[u8]],
+    text: &mut String,
+) -> Result<(), Fail> {
+    for packet in packets {
+        hear_frame(alloc, end, escaped(false, false), 0xc021, *packet, text)?;
+    }
+    Ok(())
+}
+
 /// Does a step.
 pub(crate) fn do_step(alloc: Global, pair: &mut Pair, step: Step<'_>) -> Result<(), Fail> {
     let text = &mut pair.text;
@@ -332,6 +360,7 @@ pub(crate) fn do_step(alloc: Global, pair: &mut Pair, step: Step<'_>) -> Result<
                 text,
             )
         }
+        Step::Frames(packets) => hear_frames(alloc, &mut pair.a, packets, text),
         Step::Datagram(ac, pf) => {
             hear_frame(
                 alloc,
@@ -375,6 +404,21 @@ pub(crate) fn shown(
     pair.text.clear();
     step_all(alloc, &mut pair, steps)?;
     Ok(pair.text)
+}
+
+/// The first request of the link of that number, 1 to 16, at end a of these settings.
+pub(crate) fn first_request(alloc: Global, settings: &str, number: u8) -> Result<String, Fail>
+    requires least { 1 ≤ number }
+    requires most { number ≤ 16 }
+{
+    let settings = format!(in alloc; "version = 2\n{settings}")?;
+    let config = read_config(alloc, settings.as_bytes())?;
+    let mut end = make_end(alloc, &config.a, number, 4)?;
+    let mut text = String::new(alloc);
+    act(&mut end, Call::Open(Proto::Lcp));
+    act(&mut end, Call::Up);
+    write_out(alloc, &mut text, &end.out)?;
+    Ok(text)
 }
 
 /// Looks at cases, each with its settings, steps, and what comes of them.

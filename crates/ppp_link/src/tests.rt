@@ -1,6 +1,6 @@
 //! Scripts of what happens to two links and of frames made by hand, with what comes of them.
 
-use crate::pair::{Call, End, Step, check, escaped, shown, take};
+use crate::pair::{Call, End, Step, check, escaped, first_request, shown, take};
 use ppp_frame::Deframer;
 use ppp_packet::Proto;
 use std::alloc::Global;
@@ -46,10 +46,94 @@ const IP_OPENED: &[Step<'static>] = &[
     Step::Settle,
 ];
 
+/// As where end a has asked in LCP, and the peer acknowledged that: without multilink, and with all that it asks for.
+const ACKNOWLEDGED: &[Step<'static>] = &[
+    Step::A(Call::Open(Proto::Lcp)),
+    Step::A(Call::Up),
+    Step::Frame(0xc021, &[2, 1, 0, 10, 5, 6, 0, 0, 0, 4]),
+];
+
+const ALL_ACKNOWLEDGED: &[Step<'static>] = &[
+    Step::A(Call::Open(Proto::Lcp)),
+    Step::A(Call::Up),
+    Step::Frame(
+        0xc021,
+        &[
+            2, 1, 0, 22, 5, 6, 0, 0, 0, 4, 17, 4, 5, 0xdc, 19, 4, 1, 0x61, 23, 4, 0, 10,
+        ],
+    ),
+];
+
+/// As where end a has asked in LCP, and acknowledged what the peer asked for.
+const ACKNOWLEDGING: &[Step<'static>] = &[
+    Step::A(Call::Open(Proto::Lcp)),
+    Step::A(Call::Up),
+    Step::Frame(0xc021, &[1, 1, 0, 4]),
+];
+
+/// LCP was Opened at both ends, and end a closes it.
+const CLOSING: &[Step<'static>] = &[
+    Step::A(Call::Open(Proto::Ip)),
+    Step::A(Call::Up),
+    Step::B(Call::Up),
+    Step::A(Call::Open(Proto::Lcp)),
+    Step::B(Call::Open(Proto::Lcp)),
+    Step::Settle,
+    Step::A(Call::Close(Proto::Lcp)),
+];
+
+/// LCP is Opened at both ends, and the control protocols are in Starting where they are spoken.
+const ALL_STARTING: &[Step<'static>] = &[
+    Step::A(Call::Open(Proto::Ip)),
+    Step::A(Call::Open(Proto::Ipv6)),
+    Step::A(Call::Open(Proto::Osi)),
+    Step::A(Call::Open(Proto::Mpls)),
+    Step::A(Call::Open(Proto::Bacp)),
+    Step::B(Call::Open(Proto::Ip)),
+    Step::B(Call::Open(Proto::Ipv6)),
+    Step::B(Call::Open(Proto::Osi)),
+    Step::B(Call::Open(Proto::Mpls)),
+    Step::B(Call::Open(Proto::Bacp)),
+    Step::A(Call::Up),
+    Step::B(Call::Up),
+    Step::A(Call::Open(Proto::Lcp)),
+    Step::B(Call::Open(Proto::Lcp)),
+    Step::Settle,
+];
+
+/// Protocol-Rejects of the control protocols above LCP, in order.
+const CONTROLS_REJECTED: Step<'static> = Step::Frames(&[
+    &[8, 1, 0, 6, 0x80, 0x21],
+    &[8, 2, 0, 6, 0x80, 0x57],
+    &[8, 3, 0, 6, 0x80, 0x23],
+    &[8, 4, 0, 6, 0x82, 0x81],
+    &[8, 5, 0, 6, 0xc0, 0x2b],
+]);
+
+/// One of LCP.
+const LCP_REJECTED: Step<'static> = Step::Frame(0xc021, &[8, 6, 0, 6, 0xc0, 0x21]);
+
+/// Those of protocols that have no automaton: of IPv4, multilink, BAP, CHAP and an unknown one; one that names none.
+const OTHERS_REJECTED: Step<'static> = Step::Frames(&[
+    &[8, 7, 0, 6, 0, 0x21],
+    &[8, 8, 0, 6, 0, 0x3d],
+    &[8, 9, 0, 6, 0xc0, 0x2d],
+    &[8, 10, 0, 6, 0xc2, 0x23],
+    &[8, 11, 0, 6, 0x21, 0x45],
+    &[8, 12, 0, 5, 0x80],
+]);
+
 /// End a speaks everything.
 const ALL: &str =
     "a.protocols = [\"ip\", \"ipv6\", \"osi\", \"mpls\"]\na.mrru = 1500\na.disc = \"1:61\"\n\
     a.link_disc = 10\na.favored = 1\na.bap = true";
+
+/// Both ends speak everything.
+const BOTH_ALL: &str =
+    "a.protocols = [\"ip\", \"ipv6\", \"osi\", \"mpls\"]\na.ip = \"10.0.0.1\"\na.give = \"10.0.0.2\"\n\
+    a.ifid = \"0000000000000001\"\na.mrru = 1500\na.disc = \"1:61\"\na.link_disc = 10\na.favored = 1\na.bap = true\n\
+    b.protocols = [\"ip\", \"ipv6\", \"osi\", \"mpls\"]\nb.ifid = \"0000000000000002\"\nb.mrru = 1500\nb.disc = \"1:62\"\n\
+    b.link_disc = 20\nb.favored = 2\nb.bap = true";
 
 /// Both ends speak IPCP.
 const IP: &str =
@@ -405,27 +489,173 @@ fn takes_protocol_rejects(rt: HostRuntime) -> Result<(), Fail> {
         ),
     ];
     check(rt.alloc(), &rt, IP_OPENED, &cases)?;
-    // before LCP is Opened
+    // while LCP isn't Opened
+    let phases: [(&[Step<'_>], &str); 6] = [
+        (&[], "Initial Initial - - - - ; "),
+        (&[Step::A(Call::Up)], "Closed Initial - - - - ; "),
+        (ASKING, "Req-Sent Initial - - - - ; "),
+        (ACKNOWLEDGED, "Ack-Rcvd Initial - - - - ; "),
+        (ACKNOWLEDGING, "Ack-Sent Initial - - - - ; "),
+        (CLOSING, "Closing Starting - - - - ; "),
+    ];
     for (settings, steps, _) in cases {
-        check(
-            rt.alloc(),
-            &rt,
-            &[],
-            &[(settings, steps, "Initial Initial - - - - ; ")],
-        )?;
-        check(
-            rt.alloc(),
-            &rt,
-            &[Step::A(Call::Up)],
-            &[(settings, steps, "Closed Initial - - - - ; ")],
-        )?;
-        check(
-            rt.alloc(),
-            &rt,
-            ASKING,
-            &[(settings, steps, "Req-Sent Initial - - - - ; ")],
-        )?;
+        for (before, states) in phases {
+            check(rt.alloc(), &rt, before, &[(settings, steps, states)])?;
+        }
     }
+    Ok(())
+}
+
+#[test]
+fn takes_protocol_rejects_in_each_phase(rt: HostRuntime) -> Result<(), Fail> {
+    let rejects = [
+        CONTROLS_REJECTED,
+        LCP_REJECTED,
+        OTHERS_REJECTED,
+        Step::StatesA,
+    ];
+    // while LCP isn't Opened, none of them counts
+    let phases: [(&[Step<'_>], &str); 6] = [
+        (&[], "Initial Initial Initial Initial Initial Initial ; "),
+        (
+            &[Step::A(Call::Up)],
+            "Closed Initial Initial Initial Initial Initial ; ",
+        ),
+        (
+            ASKING,
+            "Req-Sent Initial Initial Initial Initial Initial ; ",
+        ),
+        (
+            ALL_ACKNOWLEDGED,
+            "Ack-Rcvd Initial Initial Initial Initial Initial ; ",
+        ),
+        (
+            ACKNOWLEDGING,
+            "Ack-Sent Initial Initial Initial Initial Initial ; ",
+        ),
+        (
+            CLOSING,
+            "Closing Starting Initial Initial Initial Initial ; ",
+        ),
+    ];
+    for (before, states) in phases {
+        check(rt.alloc(), &rt, before, &[(ALL, &rejects, states)])?;
+    }
+    let cases: [(&str, &[Step<'_>], &str); 4] = [
+        (
+            ALL,
+            &[
+                OTHERS_REJECTED,
+                Step::StatesA,
+                CONTROLS_REJECTED,
+                Step::StatesA,
+                LCP_REJECTED,
+                Step::StatesA,
+                LCP_REJECTED,
+            ],
+            "Opened Starting Starting Starting Starting Starting ; \
+            Opened Starting Starting Starting Starting Starting ; \
+            LcpDown; c021 05010004; Stopping Starting Starting Starting Starting Starting ; ",
+        ),
+        (
+            ALL,
+            &[
+                Step::A(Call::RunAll(true)),
+                OTHERS_REJECTED,
+                Step::StatesA,
+                CONTROLS_REJECTED,
+                Step::StatesA,
+                LCP_REJECTED,
+                Step::StatesA,
+            ],
+            "Opened Req-Sent Req-Sent Req-Sent Req-Sent Req-Sent ; \
+            Opened Stopped Stopped Stopped Stopped Stopped ; \
+            LcpDown; c021 05010004; Stopping Stopped Stopped Stopped Stopped Stopped ; ",
+        ),
+        (
+            BOTH_ALL,
+            &[
+                Step::A(Call::RunAll(true)),
+                Step::B(Call::RunAll(true)),
+                Step::Settle,
+                OTHERS_REJECTED,
+                Step::StatesA,
+                CONTROLS_REJECTED,
+                CONTROLS_REJECTED,
+                Step::StatesA,
+                LCP_REJECTED,
+                Step::StatesA,
+            ],
+            "a NetUp(Ipv6); a NetUp(Osi); a NetUp(Mpls); a NetUp(Bacp); \
+            b NetUp(Ipv6); b NetUp(Osi); b NetUp(Mpls); b NetUp(Bacp); a NetUp(Ip); b NetUp(Ip); \
+            Opened Opened Opened Opened Opened Opened ; \
+            NetDown(Ip); 8021 05010004; NetDown(Ipv6); 8057 05010004; NetDown(Osi); 8023 05010004; \
+            NetDown(Mpls); 8281 05010004; NetDown(Bacp); c02b 05010004; \
+            Opened Stopped Stopped Stopped Stopped Stopped ; \
+            LcpDown; c021 05010004; Stopping Stopped Stopped Stopped Stopped Stopped ; ",
+        ),
+        // the peer rejects all but LCP itself
+        (
+            ALL,
+            &[Step::A(Call::RunAll(true)), Step::Settle, Step::StatesA],
+            "Opened Stopped Stopped Stopped Stopped Stopped ; ",
+        ),
+    ];
+    check(rt.alloc(), &rt, ALL_STARTING, &cases)
+}
+
+#[test]
+fn runs_bacp_where_asked(rt: HostRuntime) -> Result<(), Fail> {
+    let steps = [
+        Step::A(Call::RunAll(true)),
+        Step::B(Call::RunAll(true)),
+        Step::Settle,
+        Step::StatesA,
+        Step::Lists(Proto::Bacp),
+        Step::A(Call::Run(false)),
+        Step::StatesA,
+        Step::A(Call::RunAll(false)),
+        Step::StatesA,
+        Step::A(Call::Run(true)),
+        Step::StatesA,
+        Step::A(Call::RunAll(true)),
+        Step::StatesA,
+    ];
+    let both = "a NetUp(Ipv6); a NetUp(Osi); a NetUp(Mpls); a NetUp(Bacp); \
+        b NetUp(Ipv6); b NetUp(Osi); b NetUp(Mpls); b NetUp(Bacp); a NetUp(Ip); b NetUp(Ip); \
+        Opened Opened Opened Opened Opened Opened ; 010600000001; 010600000001; 010600000002; 010600000002; \
+        a NetDown(Ip); a NetDown(Ipv6); a NetDown(Osi); a NetDown(Mpls); \
+        Opened Starting Starting Starting Starting Opened ; a NetDown(Bacp); \
+        Opened Starting Starting Starting Starting Starting ; \
+        Opened Req-Sent Req-Sent Req-Sent Req-Sent Starting ; \
+        Opened Req-Sent Req-Sent Req-Sent Req-Sent Req-Sent ; ";
+    let none =
+        "Opened - - - - - ; -; -; -; -; Opened - - - - - ; Opened - - - - - ; Opened - - - - - ; Opened - - - - - ; ";
+    check(
+        rt.alloc(),
+        &rt,
+        ALL_STARTING,
+        &[(BOTH_ALL, &steps, both), ("", &steps, none)],
+    )
+}
+
+#[test]
+fn asks_with_the_number_of_the_link(rt: HostRuntime) -> Result<(), Fail> {
+    let first = first_request(rt.alloc(), ALL, 1)?;
+    let third = first_request(rt.alloc(), ALL, 3)?;
+    let last = first_request(rt.alloc(), ALL, 16)?;
+    assert_eq!(rt;
+        first.as_str(),
+        "c021 01010016050600000004110405dc130401611704000a; "
+    );
+    assert_eq!(rt;
+        third.as_str(),
+        "c021 01010016050600000004110405dc130401611704000c; "
+    );
+    assert_eq!(rt;
+        last.as_str(),
+        "c021 01010016050600000004110405dc1304016117040019; "
+    );
     Ok(())
 }
 

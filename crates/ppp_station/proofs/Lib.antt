@@ -1,3 +1,4 @@
+pub mod CapLemmas
 pub mod FrameLemmas
 mod ListLemmas
 pub mod OrdersLemmas

@@ -1,3 +1,4 @@
+pub mod Caps
 pub mod Orders
 pub mod Phases
 pub mod Station

@@ -1,10 +1,11 @@
-//! What an event of a station is to each of its automata, and when these are Up.
+//! What an event of a station is to each of its automata, when these are Up, and how long their answers are.
 
 ghost use Rattle.std.specs.Prelude.{◌≡◌, ◌≢◌, ◌-◌, ◌≤◌, ℕ, List, Some, slice_get};
 ghost use Rattle.ppp_link.specs.Automata.{auto_at};
 ghost use Rattle.ppp_link.specs.Link.{Link};
 ghost use Rattle.ppp_link.specs.LinkTables.{LinkTables};
 ghost use Rattle.ppp_packet.specs.declared.proto.Proto.{Proto};
+ghost use Rattle.ppp_station.specs.Caps.{IsCapped};
 ghost use Rattle.ppp_station.specs.Orders.{auto_by, orders, packets_of, sent_by};
 ghost use Rattle.ppp_station.specs.Phases.{IsPhased};
 ghost use Rattle.ppp_station.specs.Station.{link_ready, on_link};
@@ -50,4 +51,15 @@ pub fn phases()
     ensures begun { (t : LinkTables) → IsPhased (link_ready t) }
     ensures kept { (what : Happening) (l word : ℕ) (k : Link)
         → IsPhased k → IsPhased (link_done what l k word).link }
+{}
+
+/// Does nothing. Its clauses are laws on the most octets that a Code-Reject, an Echo-Reply and a Protocol-Reject have on a
+/// link: 1,500, and while LCP is Opened no more than the peer's granted Maximum-Receive-Unit. Each automaton has that cap.
+///
+/// - `begun`: so it is on a link as a station begins with it.
+/// - `kept`: so it stays, whatever happens to the link.
+pub fn caps()
+    ensures begun { (t : LinkTables) → IsCapped (link_ready t).automata }
+    ensures kept { (what : Happening) (l word : ℕ) (k : Link)
+        → IsCapped k.automata → IsCapped (link_done what l k word).link.automata }
 {}
