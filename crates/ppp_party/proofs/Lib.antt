@@ -3,6 +3,7 @@ mod LedgerLemmas
 mod OrderLemmas
 mod PostLemmas
 mod ReadLemmas
+mod ReaderLemmas
 mod RebootLemmas
 mod SeatLemmas
 mod SentLemmas

@@ -2,6 +2,7 @@
 -- either: they are there to say what is under way.
 use Rattle.std.specs.Prelude.{◌≡◌, ℕ, ◌+◌, ◌%◌, ◌==◌, Bool, true, false, if◌then◌else◌, List, [], ◌∷◌}
 use Rattle.ppp_packet.specs.ConfigOption.{ConfigOption}
+use Rattle.ppp_packet.specs.Options.{list_of}
 use Rattle.ppp_packet.specs.declared.proto.Proto.{Proto}
 use Rattle.ppp_packet.specs.declared.proto.Proto.TheVariants.{Lcp, Ip, Ipv6, Osi, Mpls, Bacp}
 use Rattle.ppp_auto.specs.declared.auto_state.AutoState.{AutoState}
@@ -19,6 +20,10 @@ pub record Ledger : Type 0 where
   pub got : ℕ
   -- the own list when the request was judged that was acknowledged last
   pub against : List ConfigOption
+
+-- the lists as their octets
+abbrev pub ledger_with : ℕ → List ℕ → ℕ → List ℕ → Ledger
+ledger_with n last got against = record { n = n; last = list_of last; got = got; against = list_of against }
 
 abbrev pub ledger_begun : Ledger
 ledger_begun = record { n = 0; last = []; got = 0; against = [] }

@@ -1,6 +1,9 @@
+pub mod CarriedRead
 pub mod Events
 pub mod Frame
 pub mod Kept
 pub mod Ledger
+pub mod PacketRead
 pub mod Party
+pub mod Reader
 pub mod Seat

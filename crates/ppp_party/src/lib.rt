@@ -12,4 +12,8 @@
 //! Left out: bundles, and datagrams that are sent.
 #![tactic(auto)]
 
+mod carried;
 pub mod laws;
+mod ledger;
+mod packet;
+mod reader;
