@@ -9,10 +9,10 @@ use Rattle.ppp_conf.specs.EndConfig.{EndSettings}
 use Rattle.ppp_frame.proofs.DeframerLemmas.{step_keeps}
 use Rattle.ppp_link.specs.Link.{Link, fed_with, read_by}
 use Rattle.ppp_feed.specs.EntryLine.{entry_line, entry_lines}
-use Rattle.ppp_feed.specs.Feed.{Written, and_more, takes, line_does, word_of, text_from, feed_text, BeginsBy, IsFeed}
+use Rattle.ppp_feed.specs.Feed.{Written, and_more, takes, line_does, word_of, text_from, feed_text, IsFeed}
 use Rattle.ppp_script.specs.FeedEvent.{IsWithin}
 use Rattle.ppp_script.specs.declared.feed_event.FeedEvent.{FeedEvent}
-use Rattle.ppp_station.specs.Station.{all_settings, on_link, stepped_by, station_does, with_link, IsOfLink}
+use Rattle.ppp_station.specs.Station.{BeginsBy, all_settings, on_link, stepped_by, station_does, with_link, IsOfLink}
 use Rattle.ppp_station.specs.StationOut.{Entry}
 use Rattle.ppp_station.specs.Steps.{Happening, LineUp, LineDown, Opens, Closes, TimesOut, Takes}
 use Rattle.ppp_station.specs.declared.station_event.StationEvent.{StationEvent}

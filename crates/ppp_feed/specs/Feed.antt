@@ -1,18 +1,12 @@
 -- What a feed writes: the lines of what a station sends and tells, event by event.
 use Rattle.std.specs.Prelude.{◌≡◌, ℕ, zero, suc, ◌+◌, ◌*◌, List, [], ◌∷◌, ◌++◌, length, drop}
-use Rattle.std.specs.List.{AllByRecursion}
 use Rattle.ppp_conf.specs.EndConfig.{EndSettings}
 use Rattle.ppp_feed.specs.EntryLine.{entry_lines}
 use Rattle.ppp_link.specs.Link.{Link}
 use Rattle.ppp_script.specs.declared.feed_event.FeedEvent.{FeedEvent}
 use Rattle.ppp_script.specs.declared.feed_event.FeedEvent.TheVariants as event
-use Rattle.ppp_station.specs.Station.{Stepped, all_settings, on_link, settings_in, IsReady}
+use Rattle.ppp_station.specs.Station.{Stepped, on_link, BeginsBy}
 use Rattle.ppp_station.specs.Steps.{LineUp, LineDown, Opens, Closes, TimesOut, Takes}
-
--- the links of a station as it begins by an end's settings
-pub record BeginsBy (s : EndSettings) (links : List Link) : Type 0 where
-  pub ready : AllByRecursion IsReady links
-  pub settings : settings_in links ≡ all_settings s.links 1 s
 
 -- a station after events, and the lines of what it sent and told
 pub record Written : Type 0 where

@@ -5,9 +5,9 @@ ghost use Rattle.std.specs.String.{string_bytes};
 ghost use Rattle.ppp_conf.specs.EndConfig.{end_seen};
 ghost use Rattle.ppp_feed.specs.EntryLine.{entry_line, entry_lines};
 ghost use Rattle.ppp_feed.specs.Fed.{Adds};
-ghost use Rattle.ppp_feed.specs.Feed.{line_does, takes_all, written_by, BeginsBy, IsFeed};
+ghost use Rattle.ppp_feed.specs.Feed.{line_does, takes_all, written_by, IsFeed};
 ghost use Rattle.ppp_script.specs.FeedEvent.{IsWithin};
-ghost use Rattle.ppp_station.specs.Station.{on_link, station_does, IsOfLink, IsOfLinks};
+ghost use Rattle.ppp_station.specs.Station.{BeginsBy, on_link, station_does, IsOfLink, IsOfLinks};
 ghost use Rattle.ppp_station.specs.StationOut.{entry_seen};
 ghost use Rattle.ppp_station.specs.Steps.{Takes};
 

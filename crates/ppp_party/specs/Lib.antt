@@ -1,9 +1,11 @@
 pub mod CarriedRead
 pub mod Events
 pub mod Frame
+pub mod Held
 pub mod Kept
 pub mod Ledger
 pub mod PacketRead
 pub mod Party
 pub mod Reader
 pub mod Seat
+pub mod Spans

@@ -1,6 +1,7 @@
 pub mod CapLemmas
 pub mod FrameLemmas
 mod ListLemmas
+pub mod OneStationLemmas
 pub mod OrdersLemmas
 pub mod PhaseLemmas
 pub mod SignalLemmas

@@ -1,5 +1,6 @@
 -- One whole end of single links.
 use Rattle.std.specs.Prelude.{◌≡◌, ℕ, zero, suc, ◌+◌, ◌-◌, ◌≤◌, List, [], ◌∷◌, ◌++◌, length, map, Option, Some, None, slice_get}
+use Rattle.std.specs.List.{AllByRecursion}
 use Rattle.ppp_conf.specs.EndConfig.{EndSettings}
 use Rattle.ppp_packet.specs.declared.proto.Proto.{Proto}
 use Rattle.ppp_packet.specs.declared.proto.Proto.TheVariants.{Bacp}
@@ -88,3 +89,8 @@ settings_in links = map (λ k. tables_seen k.tables) links
 abbrev pub held_in : List Link → ℕ
 held_in [] = 0
 held_in (k ∷ ks) = length k.deframer.standing.plain + held_in ks
+
+-- the links of a station as it begins by an end's settings
+pub record BeginsBy (s : EndSettings) (links : List Link) : Type 0 where
+  pub ready : AllByRecursion IsReady links
+  pub settings : settings_in links ≡ all_settings s.links 1 s

@@ -1,7 +1,7 @@
 use Rattle.std.proofs.Common.{◌≡◌, ℕ, List, sym, ◌∙◌, ap}
 use Rattle.ppp_conf.specs.EndConfig.{EndSettings}
 use Rattle.ppp_feed.specs.Feed.{IsFeed, feed_text}
-use Rattle.ppp_feed.proofs.OneStationLemmas.{same_links}
+use Rattle.ppp_station.proofs.OneStationLemmas.{same_links}
 use Rattle.ppp_script.specs.declared.feed_event.FeedEvent.{FeedEvent}
 use Rattle.ppp_feed.proofs.law.decided.Goals as goal
 
