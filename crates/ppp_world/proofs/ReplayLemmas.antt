@@ -2,12 +2,12 @@
 use Rattle.std.proofs.Common.{◌≡◌, ℕ, ◌+◌, ◌≤◌, List, [], ◌∷◌, refl, sym, ◌∙◌, ap, arith}
 use Rattle.std.specs.Prelude.{Option, Some, None, Result, Ok, Err, IfOk, IsSome}
 use Rattle.std.proofs.lemmas.List.Sums.{sum_by-cons}
+use Rattle.ppp_link.specs.Link.{Link}
 use Rattle.ppp_script.specs.Event.{steps_in, steps_in_all}
 use Rattle.ppp_script.specs.declared.script.TheConstants.{MOST_STEPS}
 use Rattle.ppp_script.specs.declared.event.Event.{Event}
 use Rattle.ppp_world.specs.Refusal.{refusal_in}
 use Rattle.ppp_world.specs.Run.{run_from, run_of, place_begun, report, refusal, before_refusal}
-use Rattle.ppp_world.specs.Settings.{Settings}
 use Rattle.ppp_world.specs.World.{World, world_begun, world_after, answer_of, place_of, UnlessMemory}
 use Rattle.ppp_world.specs.declared.outstanding.Outstanding.{Outstanding as Outstanding'}
 use Rattle.ppp_world.specs.declared.refusal.Refusal.{Refusal}
@@ -16,20 +16,21 @@ use Rattle.ppp_world.specs.declared.world_fault.WorldFault.TheVariants.{Memory, 
 use Rattle.ppp_world.proofs.RunLemmas.{linked_run}
 use Rattle.ppp_world.proofs.WorldLemmas.{world_after_all, run_is, becomes, Becomes, halt_of, halted_moments, IsNextAfter, before_refusal-none}
 
-follows : (s : Settings) (events : List Event) → Becomes (world_begun s) (run_of s events) (world_after_all (world_begun s) events)
-follows s events = rw (run_is events (world_begun s)) (becomes s (run_of s events) (world_begun s) refl (linked_run s (place_begun s) events))
+follows : (own other : List Link) (events : List Event) → Becomes (world_begun own other) (run_of own other events) (world_after_all (world_begun own other) events)
+follows own other events =
+    rw (run_is events (world_begun own other)) (becomes (run_of own other events) (world_begun own other) refl (linked_run (place_begun own other) events))
 
 halted_all : (w : World) (events : List Event) (fault : WorldFault) → w.halt ≡ Some fault → world_after_all w events ≡ w
-halted_all w events fault is = run_is events w ∙ halted_moments w (run_from w.settings (place_of w) events) fault is
+halted_all w events fault is = run_is events w ∙ halted_moments w (run_from (place_of w) events) fault is
 
 -- what the events that are left come to
-pub record ReplaysOn (s : Settings) (all : List Event) (now : World) (rest : List Event) : Type 0 where
-  pub same : world_after_all (world_begun s) all ≡ world_after_all now rest
+pub record ReplaysOn (own other : List Link) (all : List Event) (now : World) (rest : List Event) : Type 0 where
+  pub same : world_after_all (world_begun own other) all ≡ world_after_all now rest
   pub going : now.halt ≡ None
   pub room : now.steps + steps_in_all rest ≤ MOST_STEPS
 
-pub replays_first : (s : Settings) (all : List Event) → steps_in_all all ≤ MOST_STEPS → ReplaysOn s all (world_begun s) all
-replays_first s all few = record { same = refl; going = refl; room = omega arith }
+pub replays_first : (own other : List Link) (all : List Event) → steps_in_all all ≤ MOST_STEPS → ReplaysOn own other all (world_begun own other) all
+replays_first own other all few = record { same = refl; going = refl; room = omega arith }
 
 going_answer : (o : Option WorldFault) → Ok tt ≡ answer_of o → o ≡ None
 going_answer None is = refl
@@ -44,13 +45,13 @@ refused_if None fault is p = absurd (cc)
 refused_if (Some Memory) fault is p = absurd (cc)
 refused_if (Some (Outstanding other)) fault is p = p
 
-pub replays_room : (s : Settings) (all : List Event) (now : World) (rest more : List Event) (event : Event) → rest ≡ event ∷ more → ReplaysOn s all now rest → now.steps + steps_in event ≤ MOST_STEPS
-replays_room s all now rest more event is far = let room = rw is at far.room in omega (arith, room, sum_by-cons steps_in event more)
+pub replays_room : (own other : List Link) (all : List Event) (now : World) (rest more : List Event) (event : Event) → rest ≡ event ∷ more → ReplaysOn own other all now rest → now.steps + steps_in event ≤ MOST_STEPS
+replays_room own other all now rest more event is far = let room = rw is at far.room in omega (arith, room, sum_by-cons steps_in event more)
 
-pub replays_next : (s : Settings) (all : List Event) (now next : World) (rest more : List Event) (event : Event) (answer : Result (Unit {0}) WorldFault) → rest ≡ event ∷ more →
+pub replays_next : (own other : List Link) (all : List Event) (now next : World) (rest more : List Event) (event : Event) (answer : Result (Unit {0}) WorldFault) → rest ≡ event ∷ more →
     answer ≡ answer_of next.halt → answer ≡ Ok tt → UnlessMemory next.halt (next ≡ world_after now event) → next.steps ≤ now.steps + steps_in event →
-    ReplaysOn s all now rest → ReplaysOn s all next more
-replays_next s all now next rest more event answer is answers ok done steps far =
+    ReplaysOn own other all now rest → ReplaysOn own other all next more
+replays_next own other all now next rest more event answer is answers ok done steps far =
     let going = going_answer next.halt (sym ok ∙ answers) in
     let room = rw is at far.room in
     record {
@@ -64,12 +65,12 @@ no_refusal : (o : Option Refusal) → None ≡ halt_of o → o ≡ None
 no_refusal None is = refl
 no_refusal (Some refused) is = absurd (cc)
 
-pub replays_all : (s : Settings) (all : List Event) (now : World) → ReplaysOn s all now [] →
-    (now.report ≡ report s (before_refusal (run_of s all))) × (None ≡ refusal (run_of s all)) × (now.report ≡ report s (run_of s all))
-replays_all s all now far =
-    let whole = rw far.same at (follows s all) in
-    let none = no_refusal (refusal (run_of s all)) (sym far.going ∙ whole.halt) in
-    (whole.report, sym none, whole.report ∙ ap (report s) (before_refusal-none (run_of s all) none))
+pub replays_all : (own other : List Link) (all : List Event) (now : World) → ReplaysOn own other all now [] →
+    (now.report ≡ report (before_refusal (run_of own other all))) × (None ≡ refusal (run_of own other all)) × (now.report ≡ report (run_of own other all))
+replays_all own other all now far =
+    let whole = rw far.same at (follows own other all) in
+    let none = no_refusal (refusal (run_of own other all)) (sym far.going ∙ whole.halt) in
+    (whole.report, sym none, whole.report ∙ ap report (before_refusal-none (run_of own other all) none))
 
 -- at a refusal
 halt_answered : (o : Option WorldFault) (fault : WorldFault) → Err fault ≡ answer_of o → o ≡ Some fault
@@ -83,22 +84,22 @@ the_refusal (Some r) steps fault is next = same_refusal r.step r.fault next (cc)
     same_refusal : (step : ℕ) (other : Outstanding') → step ≡ steps + 1 → other ≡ fault → refusal_in (steps + 1) (Outstanding fault) ≡ Some (record { step = step; fault = other })
     same_refusal step other same_step same = rw (same_step, same) refl
 
-replays_refused : (s : Settings) (all : List Event) (now next : World) (rest more : List Event) (event : Event) (fault : Outstanding') → rest ≡ event ∷ more →
-    next.halt ≡ Some (Outstanding fault) → UnlessMemory next.halt (next ≡ world_after now event) → ReplaysOn s all now rest →
-    (next.report ≡ report s (before_refusal (run_of s all))) × (refusal_in (next.steps + 1) (Outstanding fault) ≡ refusal (run_of s all))
-replays_refused s all now next rest more event fault is why done far =
+replays_refused : (own other : List Link) (all : List Event) (now next : World) (rest more : List Event) (event : Event) (fault : Outstanding') → rest ≡ event ∷ more →
+    next.halt ≡ Some (Outstanding fault) → UnlessMemory next.halt (next ≡ world_after now event) → ReplaysOn own other all now rest →
+    (next.report ≡ report (before_refusal (run_of own other all))) × (refusal_in (next.steps + 1) (Outstanding fault) ≡ refusal (run_of own other all))
+replays_refused own other all now next rest more event fault is why done far =
     let did = refused_if next.halt fault why done in
     let same = (rw is at far.same) ∙ ap (λ w. world_after_all w more) (sym did) ∙ halted_all next more (Outstanding fault) why in
-    let whole = rw same at (follows s all) in
-    (whole.report, the_refusal (refusal (run_of s all)) next.steps fault (sym why ∙ whole.halt) whole.next)
+    let whole = rw same at (follows own other all) in
+    (whole.report, the_refusal (refusal (run_of own other all)) next.steps fault (sym why ∙ whole.halt) whole.next)
 
 -- however the world refused, what the replay comes to is right, if it comes to something
-pub replays_stopped : (s : Settings) (all : List Event) (now next : World) (rest more : List Event) (event : Event) (answer : Result (Unit {0}) WorldFault) (why : WorldFault) (refused : Option Refusal) → rest ≡ event ∷ more →
-    answer ≡ answer_of next.halt → answer ≡ Err why → UnlessMemory next.halt (next ≡ world_after now event) → ReplaysOn s all now rest → refused ≡ refusal_in (next.steps + 1) why → IsSome refused →
-    (next.report ≡ report s (before_refusal (run_of s all))) × (refused ≡ refusal (run_of s all))
-replays_stopped s all now next rest more event answer Memory refused is answers err done far refused_is some = absurd (cc)
-replays_stopped s all now next rest more event answer (Outstanding fault) refused is answers err done far refused_is some =
-    let both = replays_refused s all now next rest more event fault is (halt_answered next.halt _ (sym err ∙ answers)) done far in
+pub replays_stopped : (own other : List Link) (all : List Event) (now next : World) (rest more : List Event) (event : Event) (answer : Result (Unit {0}) WorldFault) (why : WorldFault) (refused : Option Refusal) → rest ≡ event ∷ more →
+    answer ≡ answer_of next.halt → answer ≡ Err why → UnlessMemory next.halt (next ≡ world_after now event) → ReplaysOn own other all now rest → refused ≡ refusal_in (next.steps + 1) why → IsSome refused →
+    (next.report ≡ report (before_refusal (run_of own other all))) × (refused ≡ refusal (run_of own other all))
+replays_stopped own other all now next rest more event answer Memory refused is answers err done far refused_is some = absurd (cc)
+replays_stopped own other all now next rest more event answer (Outstanding fault) refused is answers err done far refused_is some =
+    let both = replays_refused own other all now next rest more event fault is (halt_answered next.halt _ (sym err ∙ answers)) done far in
     (both.0, refused_is ∙ both.1)
 
 pub none_is : {X : Type 0} (o : Option X) → IsSome o → o ≡ None → ⊥

@@ -1,34 +1,43 @@
 -- A step is refused that makes a span wider than 255: whose, the ordinal of its last request, and the oldest of which
--- something is under way. End a comes first.
-use Rattle.std.specs.Prelude.{ℕ, nat_lt, if◌then◌else◌, List, ◌++◌, Option, Some, None}
+-- something is under way. End a comes before end b, then the least link, then the first protocol.
+use Rattle.std.specs.Prelude.{ℕ, zero, suc, ◌+◌, nat_lt, if◌then◌else◌, List, [], ◌∷◌, length, Option, Some, None}
 use Rattle.ppp_packet.specs.Proto.{proto_number}
-use Rattle.ppp_packet.specs.declared.proto.Proto.TheVariants.{Lcp}
-use Rattle.ppp_duet.specs.Duet.{Duet, Marked}
-use Rattle.ppp_duet.specs.Span.{span_of, least, requests, answers, widest}
+use Rattle.ppp_packet.specs.declared.proto.Proto.{Proto}
+use Rattle.ppp_packet.specs.declared.proto.Proto.TheVariants.{Lcp, Ip, Ipv6, Osi, Mpls, Bacp}
+use Rattle.ppp_duet.specs.Span.{widest}
+use Rattle.ppp_party.specs.Party.{Ends, turned}
+use Rattle.ppp_party.specs.Spans.{oldest_on, sent_on, span_on}
 use Rattle.ppp_script.specs.declared.end.End.{End}
 use Rattle.ppp_script.specs.declared.end.End.TheVariants.{A, B}
 use Rattle.ppp_world.specs.declared.outstanding.Outstanding.{Outstanding}
-use Rattle.ppp_world.specs.declared.step.TheConstants.{ONLY_LINK}
 
--- the oldest request of an end whose last one is the n-th, of which something is under way; n if there is none
-abbrev pub oldest_of : ℕ → List Marked → List Marked → ℕ
-oldest_of n out back = least n (requests out ++ answers back)
+-- the protocols in order
+abbrev pub protocols : List Proto
+protocols = Lcp ∷ Ip ∷ Ipv6 ∷ Osi ∷ Mpls ∷ Bacp ∷ []
 
-abbrev pub outstanding_with : End → ℕ → ℕ → Outstanding
-outstanding_with e n oldest = record { end = e; link = ONLY_LINK; protocol = proto_number Lcp; sent = n; oldest = oldest }
-
--- an end's span, where it is too wide
-abbrev pub outstanding_of : End → ℕ → List Marked → List Marked → Option Outstanding
-outstanding_of e n out back =
-    if nat_lt widest (span_of n out back) then Some (outstanding_with e n (oldest_of n out back)) else None
-
-abbrev pub outstanding_at : End → Duet → Option Outstanding
-outstanding_at A d = outstanding_of A d.a.n d.to_b d.to_a
-outstanding_at B d = outstanding_of B d.b.n d.to_a d.to_b
+-- the first end's span of a protocol on a link, where it is too wide; the end has that name
+abbrev pub outstanding_on : End → ℕ → Ends → Proto → Option Outstanding
+outstanding_on name m e p =
+    if nat_lt widest (span_on m p e)
+    then Some (record { end = name; link = m; protocol = proto_number p; sent = sent_on m p e.own; oldest = oldest_on m p e })
+    else None
 
 abbrev pub or_else : {X : Type 0} → Option X → Option X → Option X
 or_else (Some x) other = Some x
 or_else None other = other
 
-abbrev pub outstanding_in : Duet → Option Outstanding
-outstanding_in d = or_else (outstanding_at A d) (outstanding_at B d)
+abbrev pub first_among : {X : Type 0} → (Proto → Option X) → List Proto → Option X
+first_among f [] = None
+first_among f (p ∷ ps) = or_else (f p) (first_among f ps)
+
+-- on a link, and on so many links from one on
+abbrev pub outstanding_on_link : End → ℕ → Ends → Option Outstanding
+outstanding_on_link name m e = first_among (outstanding_on name m e) protocols
+
+abbrev pub outstanding_from : End → ℕ → ℕ → Ends → Option Outstanding
+outstanding_from name zero m e = None
+outstanding_from name (suc more) m e = or_else (outstanding_on_link name m e) (outstanding_from name more (m + 1) e)
+
+abbrev pub outstanding_in : Ends → Option Outstanding
+outstanding_in e =
+    or_else (outstanding_from A (length e.own.links) 1 e) (outstanding_from B (length e.own.links) 1 (turned e))

@@ -1,85 +1,87 @@
 -- The run of a script, its report, and the first step that is refused.
-use Rattle.std.specs.Prelude.{ℕ, zero, suc, ◌+◌, List, [], ◌∷◌, ◌++◌, All, Option, Some, None}
-use Rattle.ppp_auto.specs.Outbox.{Entry}
-use Rattle.ppp_duet.specs.Duet.{Duet, start}
+use Rattle.std.specs.Prelude.{ℕ, zero, suc, ◌+◌, List, [], ◌∷◌, ◌++◌, length, All, Option, Some, None}
+use Rattle.ppp_link.specs.Link.{Link}
+use Rattle.ppp_party.specs.Party.{Ends, ends_begun}
 use Rattle.ppp_script.specs.declared.event.Event.{Event}
-use Rattle.ppp_packet.specs.declared.proto.Proto.TheVariants.{Lcp}
-use Rattle.ppp_world.specs.Agreement.{AgreesEverywhere, agree_at}
+use Rattle.ppp_station.specs.StationOut.{Entry}
+use Rattle.ppp_packet.specs.declared.proto.Proto.{Proto}
+use Rattle.ppp_world.specs.AgreeOn.{AgreesOn}
 use Rattle.ppp_world.specs.Outstanding.{outstanding_in}
-use Rattle.ppp_world.specs.Report.{show_block}
-use Rattle.ppp_world.specs.Settings.{Settings, setup_of}
+use Rattle.ppp_world.specs.ShowBlock.{told_block}
 use Rattle.ppp_world.specs.Step.{step_of, settling, next_delivery, entries_made, moved}
 use Rattle.ppp_world.specs.declared.outstanding.Outstanding.{Outstanding}
 use Rattle.ppp_world.specs.declared.refusal.Refusal.{Refusal}
 use Rattle.ppp_world.specs.declared.step.Step.{Step}
-use Rattle.ppp_world.specs.declared.step.TheConstants.{ONLY_LINK}
-use Rattle.ppp_world.specs.declared.step.Step.TheVariants.{Happens, Reports, Rests}
+use Rattle.ppp_world.specs.declared.step.Step.TheVariants.{Happens, Delivers, Loses, Reboots, Reports, Rests}
 
--- a step that was done: its number, what it was, the entries that it made, and the state after it
+-- a step that was done: its number, what it was, the entries that the stations made, and the two ends after it
 pub record Moment : Type 0 where
   pub number : ℕ
   pub step : Step
   pub entries : List Entry
-  pub after : Duet
+  pub after : Ends
 
--- a state after so many steps
+-- the two ends after so many steps
 pub record Place : Type 0 where
   pub done : ℕ
-  pub duet : Duet
+  pub ends : Ends
 
 -- the moment of a step there
-abbrev pub moment_at : Settings → Place → Step → Moment
-moment_at s p step = record {
+abbrev pub moment_at : Place → Step → Moment
+moment_at p step = record {
   number = p.done + 1;
   step = step;
-  entries = entries_made s (p.done + 1) p.duet step;
-  after = moved s (p.done + 1) p.duet step;
+  entries = entries_made (p.done + 1) p.ends step;
+  after = moved (p.done + 1) p.ends step;
 }
 
 abbrev pub after_moment : Moment → Place
-after_moment m = record { done = m.number; duet = m.after }
+after_moment m = record { done = m.number; ends = m.after }
 
 -- so many deliveries
-abbrev pub deliveries : Settings → ℕ → Place → List Moment
-deliveries s zero p = []
-deliveries s (suc count) p =
-    let m = moment_at s p (next_delivery p.duet) in m ∷ deliveries s count (after_moment m)
+abbrev pub deliveries : ℕ → Place → List Moment
+deliveries zero p = []
+deliveries (suc count) p =
+    let m = moment_at p (next_delivery p.ends) in m ∷ deliveries count (after_moment m)
 
 -- the moments of an event: as many as it has steps
-abbrev pub moments_by : Settings → Option ℕ → Event → Place → List Moment
-moments_by s (Some count) event p = deliveries s count p
-moments_by s None event p = moment_at s p (step_of event) ∷ []
+abbrev pub moments_by : Option ℕ → Event → Place → List Moment
+moments_by (Some count) event p = deliveries count p
+moments_by None event p = moment_at p (step_of (length p.ends.own.links) event) ∷ []
 
-abbrev pub moments_of : Settings → Event → Place → List Moment
-moments_of s event p = moments_by s (settling event) event p
+abbrev pub moments_of : Event → Place → List Moment
+moments_of event p = moments_by (settling event) event p
 
 abbrev pub place_after : Place → List Moment → Place
 place_after p [] = p
 place_after p (m ∷ ms) = place_after (after_moment m) ms
 
-abbrev pub run_from : Settings → Place → List Event → List Moment
-run_from s p [] = []
-run_from s p (event ∷ events) = let ms = moments_of s event p in ms ++ run_from s (place_after p ms) events
+abbrev pub run_from : Place → List Event → List Moment
+run_from p [] = []
+run_from p (event ∷ events) = let ms = moments_of event p in ms ++ run_from (place_after p ms) events
 
-abbrev pub place_begun : Settings → Place
-place_begun s = record { done = 0; duet = start (setup_of s.a) (setup_of s.b) }
+abbrev pub place_begun : List Link → List Link → Place
+place_begun own other = record { done = 0; ends = ends_begun own other }
 
--- the run of these events: every step with the state after it
-abbrev pub run_of : Settings → List Event → List Moment
-run_of s events = run_from s (place_begun s) events
+-- the run of these events from the beginning of stations of these links: every step with the two ends after it
+abbrev pub run_of : List Link → List Link → List Event → List Moment
+run_of own other events = run_from (place_begun own other) events
 
 -- what is reported of a step
-abbrev pub shown_at : Settings → ℕ → Duet → Step → List ℕ
-shown_at s k d Reports = show_block k d (agree_at s ONLY_LINK Lcp d)
-shown_at s k d (Happens at what) = []
-shown_at s k d Rests = []
+abbrev pub shown_at : ℕ → Ends → Step → List ℕ
+shown_at k e Reports = told_block k e
+shown_at k e (Happens at l what) = []
+shown_at k e (Delivers at l) = []
+shown_at k e (Loses at l place) = []
+shown_at k e (Reboots at) = []
+shown_at k e Rests = []
 
-abbrev pub shown : Settings → Moment → List ℕ
-shown s m = shown_at s m.number m.after m.step
+abbrev pub shown : Moment → List ℕ
+shown m = shown_at m.number m.after m.step
 
-abbrev pub report : Settings → List Moment → List ℕ
-report s [] = []
-report s (m ∷ ms) = shown s m ++ report s ms
+abbrev pub report : List Moment → List ℕ
+report [] = []
+report (m ∷ ms) = shown m ++ report ms
 
 -- the first step of a run that is refused, if there is one, and the steps before it
 abbrev pub refusal_with : Moment → Option Outstanding → Option Refusal → Option Refusal
@@ -99,14 +101,18 @@ before_refusal [] = []
 before_refusal (m ∷ ms) = kept_with m (outstanding_in m.after) (before_refusal ms)
 
 -- what a replay reports: the steps before the first that is refused
-abbrev pub report_of : Settings → List Event → List ℕ
-report_of s events = report s (before_refusal (run_of s events))
+abbrev pub report_of : List Link → List Link → List Event → List ℕ
+report_of own other events = report (before_refusal (run_of own other events))
 
--- two Opened ends agree after every step of a run
-abbrev pub AgreesThroughout : Settings → List Moment → Type 0
-AgreesThroughout s ms = All (λ m. AgreesEverywhere s m.after) ms
+-- two Opened ends of a protocol agree, on each link
+abbrev pub AgreeEverywhere : Ends → Type 0
+AgreeEverywhere e = (m : ℕ) (p : Proto) → AgreesOn m p e
+
+-- so they do after every step of a run
+abbrev pub AgreeThroughout : List Moment → Type 0
+AgreeThroughout ms = All (λ m. AgreeEverywhere m.after) ms
 
 -- and so they do from the start of the run of these events up to the first step that is refused
-pub record AgreesInRun (s : Settings) (events : List Event) : Type 0 where
-  pub first : AgreesEverywhere s (place_begun s).duet
-  pub each : AgreesThroughout s (before_refusal (run_of s events))
+pub record AgreesInRun (own other : List Link) (events : List Event) : Type 0 where
+  pub first : AgreeEverywhere (ends_begun own other)
+  pub each : AgreeThroughout (before_refusal (run_of own other events))

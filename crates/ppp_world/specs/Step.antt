@@ -1,98 +1,120 @@
--- What a step of a script does to the two ends and the queues between them. A world has one link with one protocol,
--- LCP, so its state is the duet of that, and each step is one of the duet's events, after which the frames that found
--- a queue full are lost.
-use Rattle.std.specs.Prelude.{ℕ, ◌+◌, ◌*◌, ◌==◌, if◌then◌else◌, List, [], ◌∷◌, take, Option, Some, None}
-use Rattle.ppp_auto.specs.Outbox.{Entry}
-use Rattle.ppp_auto.specs.Automaton.{command, take_in, entries_of}
-use Rattle.ppp_auto.specs.declared.auto_event.AutoEvent.TheVariants as event
-use Rattle.ppp_duet.specs.Duet.{Duet, End as End', Setup, Side, Marked, Commands, Delivers, Loses, happens}
-use Rattle.ppp_duet.specs.Duet as duet
-use Rattle.ppp_packet.specs.declared.proto.Proto.{Proto}
-use Rattle.ppp_packet.specs.declared.proto.Proto.TheVariants.{Lcp}
+-- What a step of a script does to the two ends of a world and the frames between them. End a is the first of the two.
+use Rattle.std.specs.Prelude.{ℕ, zero, suc, ◌+◌, ◌-◌, ◌*◌, nat_le, ◌&&◌, ⊤, if◌then◌else◌, List, [], ◌∷◌, ◌++◌, length, Option, Some, None, slice_get}
+use Rattle.ppp_link.specs.Link.{Link}
+use Rattle.ppp_party.specs.Frame.{Frame}
+use Rattle.ppp_party.specs.Happening.{happening_seen}
+use Rattle.ppp_party.specs.Party.{Ends, Party, delivers, first_busy, happens, loses, reboots, turned}
+use Rattle.ppp_party.specs.declared.happening.Happening.{Happening}
+use Rattle.ppp_party.specs.declared.happening.Happening.TheVariants as what
 use Rattle.ppp_script.specs.declared.end.End.{End}
 use Rattle.ppp_script.specs.declared.end.End.TheVariants.{A, B}
 use Rattle.ppp_script.specs.declared.event.Event.{Event}
-use Rattle.ppp_script.specs.declared.event.Event.TheVariants.{Up, Down, AdminOpen, AdminClose, Timeout, Deliver, Lose, Settle, Show}
-use Rattle.ppp_world.specs.Settings.{Settings, setup_of}
-use Rattle.ppp_world.specs.declared.queue.TheConstants.{ROOM}
-use Rattle.ppp_world.specs.declared.step.TheConstants.{ONLY_LINK}
-use Rattle.ppp_world.specs.declared.step.Happening.{Happening}
-use Rattle.ppp_world.specs.declared.step.Happening.TheVariants as what
+use Rattle.ppp_script.specs.declared.event.Event.TheVariants.{Up, Down, AdminOpen, AdminClose, Timeout, Deliver, Lose, Settle, Reboot, Show}
+use Rattle.ppp_station.specs.Station.{IsOfLink, on_link}
+use Rattle.ppp_station.specs.StationOut.{AreShort, Entry}
+use Rattle.ppp_station.specs.Steps.{LineDown, Takes}
 use Rattle.ppp_world.specs.declared.step.Step.{Step}
-use Rattle.ppp_world.specs.declared.step.Step.TheVariants.{Happens, Reports, Rests}
+use Rattle.ppp_world.specs.declared.step.Step.TheVariants.{Happens, Delivers, Loses, Reboots, Reports, Rests}
 
-abbrev pub side_of : End → Side
-side_of A = duet.A
-side_of B = duet.B
+-- ---- what a line of a script is
 
-abbrev pub happening_seen : Happening → duet.Happening
-happening_seen (what.Command event) = Commands event
-happening_seen what.Deliver = Delivers
-happening_seen (what.Lose place) = Loses place
+-- a step on a link; nothing where there is no such link
+abbrev pub if_linked : ℕ → ℕ → Step → Step
+if_linked links l step = if nat_le 1 l && nat_le l links then step else Rests
 
--- the one link that there is, and the one protocol
-abbrev pub on_link : ℕ → Step → Step
-on_link link step = if link == ONLY_LINK then step else Rests
-
-abbrev pub on_lcp : Proto → Step → Step
-on_lcp Lcp step = step
-on_lcp other step = Rests
-
--- the step of an event that is one step
-abbrev pub step_of : Event → Step
-step_of (Up e link) = on_link link (Happens e (what.Command event.Up))
-step_of (Down e link) = on_link link (Happens e (what.Command event.Down))
-step_of (AdminOpen e link proto) = on_link link (on_lcp proto (Happens e (what.Command event.AdminOpen)))
-step_of (AdminClose e link proto) = on_link link (on_lcp proto (Happens e (what.Command event.AdminClose)))
-step_of (Timeout e link proto) = on_link link (on_lcp proto (Happens e (what.Command event.Timeout)))
-step_of (Deliver e link) = on_link link (Happens e what.Deliver)
-step_of (Lose e link place) = on_link link (Happens e (what.Lose place))
-step_of (Settle count) = Rests
-step_of Show = Reports
+-- the step of an event that is one step, in a world of so many links
+abbrev pub step_of : ℕ → Event → Step
+step_of links (Up e l) = if_linked links l (Happens e l what.LineUp)
+step_of links (Down e l) = if_linked links l (Happens e l what.LineDown)
+step_of links (AdminOpen e l p) = if_linked links l (Happens e l (what.Opens p))
+step_of links (AdminClose e l p) = if_linked links l (Happens e l (what.Closes p))
+step_of links (Timeout e l p) = if_linked links l (Happens e l (what.TimesOut p))
+step_of links (Deliver e l) = if_linked links l (Delivers e l)
+step_of links (Lose e l place) = if_linked links l (Loses e l place)
+step_of links (Settle count) = Rests
+step_of links (Reboot e) = Reboots e
+step_of links Show = Reports
 
 -- an event settles by so many deliveries, or is one step
 abbrev pub settling : Event → Option ℕ
 settling (Settle count) = Some count
 settling event = None
 
--- the next delivery: the front frame of the first queue that isn't empty, that to a before that to b
-abbrev pub delivery_among : List Marked → List Marked → Step
-delivery_among (m ∷ ms) to_b = Happens A what.Deliver
-delivery_among [] (m ∷ ms) = Happens B what.Deliver
-delivery_among [] [] = Rests
+-- the next delivery: the front frame of the first queue that isn't empty, of a's links upwards and then of b's
+abbrev pub delivery_at : End → Option ℕ → Step → Step
+delivery_at at (Some l) otherwise = Delivers at l
+delivery_at at None otherwise = otherwise
 
-abbrev pub next_delivery : Duet → Step
-next_delivery d = delivery_among d.to_a d.to_b
+abbrev pub next_delivery : Ends → Step
+next_delivery e = delivery_at A (first_busy 1 e.own.incoming) (delivery_at B (first_busy 1 e.other.incoming) Rests)
 
--- One that is sent into a full queue is lost.
-unfoldable pub within_room : Duet → Duet
-within_room d = record d { to_a = take ROOM d.to_a; to_b = take ROOM d.to_b }
+-- ---- what it does
+
+-- what one end does to the two, where a is the first
+abbrev pub at_end : End → (Ends → Ends) → Ends → Ends
+at_end A does e = does e
+at_end B does e = turned (does (turned e))
+
+abbrev pub peer_of : End → End
+peer_of A = B
+peer_of B = A
 
 -- the word of the k-th step at an end
 abbrev pub word_of : End → ℕ → ℕ
 word_of A k = 2 * k
 word_of B k = 2 * k + 1
 
--- the duet's event of something that happens in the k-th step
-abbrev pub event_of : ℕ → End → Happening → duet.Event
-event_of k at what = record { side = side_of at; what = happening_seen what; word = word_of at k }
+-- The k-th step. All lines that a reboot takes down at the other end have that end's word.
+abbrev pub moved : ℕ → Ends → Step → Ends
+moved k e (Happens at l what) = at_end at (happens (happening_seen what) l (word_of at k)) e
+moved k e (Delivers at l) = at_end at (delivers l (word_of at k)) e
+moved k e (Loses at l place) = at_end at (loses l place) e
+moved k e (Reboots at) = at_end at (reboots (word_of (peer_of at) k)) e
+moved k e Reports = e
+moved k e Rests = e
 
--- the k-th step
-abbrev pub moved : Settings → ℕ → Duet → Step → Duet
-moved s k d (Happens at what) = within_room (happens (setup_of s.a) (setup_of s.b) d (event_of k at what))
-moved s k d Reports = d
-moved s k d Rests = d
+-- ---- the entries that the stations make
 
--- the entries that an end makes, to which these frames are under way
-abbrev pub entries_at : Setup → End' → List Marked → Happening → ℕ → List Entry
-entries_at s e incoming (what.Command event) word = entries_of (command s.table e.auto event word)
-entries_at s e [] what.Deliver word = []
-entries_at s e (m ∷ ms) what.Deliver word = entries_of (take_in s.table e.auto m.packet word)
-entries_at s e incoming (what.Lose place) word = []
+abbrev pub party_at : End → Ends → Party
+party_at A e = e.own
+party_at B e = e.other
 
--- the entries that the k-th step makes
-abbrev pub entries_made : Settings → ℕ → Duet → Step → List Entry
-entries_made s k d (Happens A what) = entries_at (setup_of s.a) d.a d.to_a what (word_of A k)
-entries_made s k d (Happens B what) = entries_at (setup_of s.b) d.b d.to_b what (word_of B k)
-entries_made s k d Reports = []
-entries_made s k d Rests = []
+abbrev pub taken_entries : ℕ → List Link → ℕ → Option (List Frame) → List Entry
+taken_entries l links word (Some (f ∷ rest)) = (on_link (Takes f.octets) l links word).out.entries
+taken_entries l links word queue = []
+
+-- so many lines go down, from that link on
+abbrev pub down_entries : ℕ → ℕ → ℕ → List Link → List Entry
+down_entries zero l word links = []
+down_entries (suc more) l word links =
+    let did = on_link LineDown l links word in did.out.entries ++ down_entries more (l + 1) word did.links
+
+abbrev pub entries_made : ℕ → Ends → Step → List Entry
+entries_made k e (Happens at l what) = (on_link (happening_seen what) l (party_at at e).links (word_of at k)).out.entries
+entries_made k e (Delivers at l) =
+    let party = party_at at e in taken_entries l party.links (word_of at k) (slice_get party.incoming (l - 1))
+entries_made k e (Loses at l place) = []
+entries_made k e (Reboots at) =
+    let links = (party_at (peer_of at) e).links in down_entries (length links) 1 (word_of (peer_of at) k) links
+entries_made k e Reports = []
+entries_made k e Rests = []
+
+-- ---- what is asked of a step, and told of it
+
+-- its link is one of so many
+abbrev pub IsLinked : ℕ → Step → Type 0
+IsLinked links (Happens at l what) = IsOfLink links l
+IsLinked links (Delivers at l) = IsOfLink links l
+IsLinked links (Loses at l place) = IsOfLink links l
+IsLinked links (Reboots at) = ⊤
+IsLinked links Reports = ⊤
+IsLinked links Rests = ⊤
+
+-- no frame that it sends on its link is longer than the longest
+abbrev pub IsShort : ℕ → Ends → Step → Type 0
+IsShort k e (Happens at l what) = AreShort (entries_made k e (Happens at l what))
+IsShort k e (Delivers at l) = AreShort (entries_made k e (Delivers at l))
+IsShort k e (Loses at l place) = ⊤
+IsShort k e (Reboots at) = ⊤
+IsShort k e Reports = ⊤
+IsShort k e Rests = ⊤

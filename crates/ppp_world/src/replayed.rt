@@ -1,17 +1,16 @@
 //! The replay of a script.
 
 ghost use Rattle.std.specs.Prelude.{◌≡◌, ◌+◌, ◌≤◌, None, IsSome, IfOk};
+ghost use Rattle.ppp_conf.specs.Config.{config_seen};
 ghost use Rattle.ppp_script.specs.declared.script.TheConstants.{MOST_STEPS};
 ghost use Rattle.ppp_world.specs.Refusal.{refusal_in};
-ghost use Rattle.ppp_world.specs.Run.{refusal, report, report_of, run_of, AgreesInRun};
-ghost use Rattle.ppp_conf.specs.Config.{config_seen};
-ghost use Rattle.ppp_world.specs.Settings.{settings_in};
+ghost use Rattle.ppp_world.specs.Replay.{IsReplay};
 
 use crate::refusal::Refusal;
 use crate::world::World;
 use crate::world_fault::WorldFault;
-use ppp_auto::Memory;
 use ppp_conf::Config;
+use ppp_memory::Memory;
 use ppp_script::{Event, Script};
 use std::alloc::Global;
 
@@ -25,14 +24,9 @@ pub struct Replayed {
 }
 
 /// Replays a script with these settings, up to the first step that is refused. In every state of its run two Opened ends
-/// agree, on each link and in each protocol.
+/// of a protocol agree, on each link.
 pub fn replay(alloc: Global, config: &Config, script: &Script<Event>) -> Result<Replayed, Memory>
-    ensures report { IfOk result (λ r. r.report.items ≡ report_of (settings_in (config_seen config.now)) script.now) }
-    ensures refused { IfOk result
-        (λ r. r.refused ≡ refusal (run_of (settings_in (config_seen config.now)) script.now)) }
-    ensures whole { IfOk result (λ r. r.refused ≡ None → r.report.items
-        ≡ report (settings_in (config_seen config.now)) (run_of (settings_in (config_seen config.now)) script.now)) }
-    ensures agreement { AgreesInRun (settings_in (config_seen config.now)) script.now }
+    ensures { IfOk result (λ r. IsReplay (config_seen config.now) script.now r.report.items r.refused) }
 {
     let mut world = World::new(alloc, config)?;
     for i in 0..script.count() {

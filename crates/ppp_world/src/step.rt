@@ -1,31 +1,22 @@
 //! The steps of a script.
 
-ghost use Rattle.std.specs.Prelude.{◌≡◌};
-ghost use Rattle.ppp_world.specs.Step.{on_link, on_lcp, settling, step_of};
+ghost use Rattle.std.specs.Prelude.{◌≡◌, ◌≤◌};
+ghost use Rattle.ppp_world.specs.Step.{if_linked, settling, step_of, IsLinked};
 
-use ppp_auto::AutoEvent;
-use ppp_packet::Proto;
+use ppp_party::Happening;
 use ppp_script::{End, Event};
 
-/// The number of the one link that there is.
-pub(crate) const ONLY_LINK: u8 = 1;
-
-/// What happens at an end.
-#[derive(Clone, Copy, Debug, PartialEq, Eq)]
-pub(crate) enum Happening {
-    /// An event of its automaton without a packet.
-    Command(AutoEvent),
-    /// It takes the front frame under way to it.
-    Deliver,
-    /// The frame under way to it of that place from the front, from 1 on, is lost.
-    Lose(u16),
-}
-
-/// One step.
+/// One step. The number is of a link, from 1 on.
 #[derive(Clone, Copy, Debug, PartialEq, Eq)]
 pub(crate) enum Step {
-    /// Something happens at an end.
-    Happens(End, Happening),
+    /// Something happens to a link of an end.
+    Happens(End, u8, Happening),
+    /// An end takes the front frame under way to it on a link.
+    Delivers(End, u8),
+    /// The frame under way to an end on a link of that place from the front, from 1 on, is lost.
+    Loses(End, u8, u16),
+    /// An end begins anew.
+    Reboots(End),
     /// The states are reported.
     Reports,
     /// Nothing happens.
@@ -33,34 +24,27 @@ pub(crate) enum Step {
 }
 
 impl Step {
-    /// The step of an event that is one step.
-    pub(crate) fn of(event: &Event) -> Step
-        ensures { result ≡ step_of event.now }
+    /// The step of an event that is one step, in a world of so many links.
+    pub(crate) fn of(event: &Event, links: u8) -> Step
+        ensures value { result ≡ step_of links event.now }
+        ensures linked { IsLinked links result }
     {
         match *event {
-            Event::Up(end, link) => on_line(link, command(end, AutoEvent::Up)),
-            Event::Down(end, link) => on_line(link, command(end, AutoEvent::Down)),
-            Event::AdminOpen(end, link, proto) => on_protocol(
-                link,
-                proto,
-                command(end, AutoEvent::AdminOpen),
-            ),
-            Event::AdminClose(end, link, proto) => on_protocol(
-                link,
-                proto,
-                command(end, AutoEvent::AdminClose),
-            ),
-            Event::Timeout(end, link, proto) => on_protocol(
-                link,
-                proto,
-                command(end, AutoEvent::Timeout),
-            ),
-            Event::Deliver(end, link) => on_line(link, Step::Happens(end, Happening::Deliver)),
-            Event::Lose(end, link, place) => on_line(
-                link,
-                Step::Happens(end, Happening::Lose(place)),
-            ),
+            Event::Up(end, link) => happens(links, end, link, Happening::LineUp),
+            Event::Down(end, link) => happens(links, end, link, Happening::LineDown),
+            Event::AdminOpen(end, link, proto) => {
+                happens(links, end, link, Happening::Opens(proto))
+            }
+            Event::AdminClose(end, link, proto) => {
+                happens(links, end, link, Happening::Closes(proto))
+            }
+            Event::Timeout(end, link, proto) => {
+                happens(links, end, link, Happening::TimesOut(proto))
+            }
+            Event::Deliver(end, link) => if_linked(links, link, Step::Delivers(end, link)),
+            Event::Lose(end, link, place) => if_linked(links, link, Step::Loses(end, link, place)),
             Event::Settle(_) => Step::Rests,
+            Event::Reboot(end) => Step::Reboots(end),
             Event::Show => Step::Reports,
         }
     }
@@ -76,26 +60,23 @@ pub(crate) fn settling(event: &Event) -> Option<u16>
     }
 }
 
-/// The step that an event without a packet is.
-fn command(end: End, event: AutoEvent) -> Step
-    ensures { result ≡ Step.Happens end (Happening.Command event) }
+/// The step of something that happens to a link of an end.
+fn happens(links: u8, end: End, link: u8, what: Happening) -> Step
+    ensures value { result ≡ if_linked links link (Step.Happens end link what) }
+    ensures linked { IsLinked links result }
 {
-    Step::Happens(end, Happening::Command(event))
+    if_linked(links, link, Step::Happens(end, link, what))
 }
 
-/// A step of that link: nothing, if it is another than the one that there is.
-fn on_line(link: u8, step: Step) -> Step
-    ensures { result ≡ on_link link step }
+/// A step on a link: nothing, where there is no such link.
+fn if_linked(links: u8, link: u8, step: Step) -> Step
+    requires { 1 ≤ link → link ≤ links → IsLinked links step }
+    ensures value { result ≡ if_linked links link step }
+    ensures linked { IsLinked links result }
 {
-    if link == ONLY_LINK { step } else { Step::Rests }
-}
-
-/// A step of that protocol on that link: nothing, if it is another than the one that there is.
-fn on_protocol(link: u8, protocol: Proto, step: Step) -> Step
-    ensures { result ≡ on_link link (on_lcp protocol step) }
-{
-    match protocol {
-        Proto::Lcp => on_line(link, step),
-        _ => Step::Rests,
+    if 1 <= link && link <= links {
+        step
+    } else {
+        Step::Rests
     }
 }
