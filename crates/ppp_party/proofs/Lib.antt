@@ -1,5 +1,6 @@
 mod KeptLemmas
 mod LedgerLemmas
+mod LoneLemmas
 mod OrderLemmas
 mod PostLemmas
 mod ReadLemmas
@@ -7,4 +8,5 @@ mod ReaderLemmas
 mod RebootLemmas
 mod SeatLemmas
 mod SentLemmas
+mod SpansLemmas
 mod StepLemmas
