@@ -188,7 +188,7 @@ loses-kept sa sb p l m place e k low least narrow =
     came-kept sa sb p m e _ k (loses-same l place e) narrow
     (loses-came sa sb p l m place e k.own k.own_auto (end_of k.other_auto (ledger_at k.other.ledgers p)) low least k.own_seated.at k.own_seated.well k.own_seated.end)
 
-pub reboots-kept : (sa sb : Setup) (p : Proto) (m word : ℕ) (e : Ends) (k : Kept sa sb p m e) → 1 ≤ m → AreShort (link_done LineDown m k.other.link word).out → Kept sa sb p m (reboots word e)
-reboots-kept sa sb p m word e k least short =
+pub reboots-kept : (sa sb : Setup) (p : Proto) (m word : ℕ) (e : Ends) (k : Kept sa sb p m e) → 1 ≤ m → Kept sa sb p m (reboots word e)
+reboots-kept sa sb p m word e k least =
     anew-kept sa sb p m (rebooted sa sb word (duet_of k)) _ (reached_on sa sb (duet_of k) (record { side = duet.A; what = duet.Reboots; word = word }) (λ same. absurd (cc)) k.reached)
-    (reboots-came sa sb p m word e k.own k.other k.own_auto k.other_auto least short k.own_seated.at k.own_seated.end k.other_seated.at k.other_seated.well.settled k.other_seated.end)
+    (reboots-came sa sb p m word e k.own k.other k.own_auto k.other_auto least k.own_seated.at k.own_seated.end k.other_seated.at k.other_seated.well.settled k.other_seated.end)

@@ -1,3 +1,5 @@
+mod DownLemmas
+mod HeldLemmas
 mod KeptLemmas
 mod LedgerLemmas
 mod LoneLemmas

@@ -31,6 +31,7 @@ use Rattle.ppp_party.specs.Events.{DeliversFirst, AreCaused, Leads, Makes}
 use Rattle.ppp_party.specs.Ledger.{Ledger, Ledgers, IsLedgerOf, end_of, first_id, ledger_at, ledger_begun, ledgers_begun, noted_all, stamped}
 use Rattle.ppp_party.specs.Party.{Ends, downs, happens, cleared, ends_begun, party_begun, posted, pushes_on, queued, reboots, room, turned, unheard}
 use Rattle.ppp_party.specs.Seat.{Anew, IsEnd, IsSettled, IsSpoken, IsWell, Seat, rebooted, SeatAt, seat_duet, seat_happens}
+use Rattle.ppp_party.proofs.DownLemmas.{down-short}
 use Rattle.ppp_party.proofs.LedgerLemmas.{commanded_kept, commanded_seen, packets_of, proper_command, read_all, sent_in}
 use Rattle.ppp_party.proofs.OrderLemmas.{at_own, duet_with, joined, orders-run}
 use Rattle.ppp_party.proofs.PostLemmas.{marked-frames, noted-frames}
@@ -286,7 +287,7 @@ none-only p queue n none =
     nil-front (only p (take n queue)) (only p (drop n queue)) (sym (flat_map-append (seen p) (take n queue) (drop n queue)) ∙ ap (only p) (take-append-drop n queue) ∙ none)
 
 -- the other end, whose line went down behind the loss of all that was under way
-abbrev silenced : Seat → Seat
+abbrev pub silenced : Seat → Seat
 silenced o = record { link = o.link; ledgers = unheard o.ledgers; incoming = []; outgoing = [] }
 
 record WentDown (sb : Setup) (p : Proto) (m word : ℕ) (o : Seat) (b : Auto) : Type 0 where
@@ -380,11 +381,11 @@ begun-end sa p t incoming spoken =
       kept = subst (λ g. IsLedgerOf auto g) (sym (begun-at p)) opened.kept;
     }
 
-pub reboots-came : (sa sb : Setup) (p : Proto) (m word : ℕ) (e : Ends) (s o : Seat) (a b : Auto) → 1 ≤ m →
-    AreShort (link_done LineDown m o.link word).out → SeatAt m e s → IsEnd sa p s a → SeatAt m (turned e) o → IsSettled o.link → IsEnd sb p o b →
+pub reboots-came : (sa sb : Setup) (p : Proto) (m word : ℕ) (e : Ends) (s o : Seat) (a b : Auto) → 1 ≤ m → SeatAt m e s → IsEnd sa p s a → SeatAt m (turned e) o → IsSettled o.link → IsEnd sb p o b →
     Anew sa sb p m (rebooted sa sb word (seat_duet p a s (end_of b (ledger_at o.ledgers p)))) (reboots word e)
 unfolding reboots
-reboots-came sa sb p m word e s o a b low short own_at own_end other_at settled other_end =
+reboots-came sa sb p m word e s o a b low own_at own_end other_at settled other_end =
+    let short = down-short m word o.link in
     let n = length e.other.links in
     let start : Ends = record { own = cleared e.other; other = party_begun (map (λ k. link_ready k.tables) e.own.links) } in
     let t = s.link.tables in
