@@ -1,5 +1,5 @@
 -- A line that goes down sends no frame.
-use Rattle.std.proofs.Common.{◌≡◌, ℕ, Bool, true, false, if◌then◌else◌, List, [], ◌∷◌, ◌++◌, refl, sym, ap, subst, ◌∙◌, append-nil}
+use Rattle.std.proofs.Common.{◌≡◌, ℕ, Bool, true, false, if◌then◌else◌, List, [], ◌∷◌, ◌++◌, refl, sym, ap, subst, ◌∙◌}
 use Rattle.std.specs.Prelude.{⊤, Option, Some, None}
 use Rattle.std.specs.List.{AllByRecursion}
 use Rattle.std.proofs.lemmas.Grind.{flat_map-append}
@@ -16,13 +16,12 @@ use Rattle.ppp_packet.specs.declared.proto.Proto.{Proto}
 use Rattle.ppp_packet.specs.declared.proto.Proto.TheVariants.{Lcp, Ip, Ipv6, Osi, Mpls, Bacp}
 use Rattle.ppp_frame.specs.declared.form.Form.{Form}
 use Rattle.ppp_link.specs.Automata.{auto_at, form_for}
-use Rattle.ppp_link.specs.Link.{Link, link_with, run_did}
+use Rattle.ppp_link.specs.Link.{Link}
 use Rattle.ppp_link.specs.LinkOut as told
 use Rattle.ppp_link.specs.LinkTables.{LinkTables, table_of}
-use Rattle.ppp_link.specs.Steps.{Did, Event, after, begins, does, each_does, run_by, signal_told, told_all, told_by, told_if}
-use Rattle.ppp_link.specs.Steps as link
+use Rattle.ppp_link.specs.Steps.{Did, Event, after, begins, does, each_does, signal_told, told_all, told_by, told_if}
 use Rattle.ppp_station.specs.StationOut.{AreShort}
-use Rattle.ppp_station.specs.Steps.{Done, LineDown, all_plain, link_does, link_done, plain, runs, works, works_one}
+use Rattle.ppp_station.specs.Steps.{LineDown, all_plain, link_does, link_done, plain, runs, works, works_one}
 
 -- ---- one automaton
 

@@ -1,10 +1,10 @@
 -- What holds of a protocol on a link in each state of a world, by an event at either end.
-use Rattle.std.proofs.Common.{◌≡◌, ◌≢◌, ℕ, ◌+◌, ◌-◌, ◌≤◌, List, [], ◌∷◌, length, map, refl, sym, ap, subst, ◌∙◌, inl, inr, arith}
-use Rattle.std.specs.Prelude.{◌⊎◌, Option, Some, None, option_map, slice_get}
+use Rattle.std.proofs.Common.{◌≡◌, ◌≢◌, ℕ, ◌-◌, ◌≤◌, List, [], ◌∷◌, length, map, refl, sym, ap, subst, ◌∙◌, inl, inr, arith}
+use Rattle.std.specs.Prelude.{Option, Some, None, option_map, slice_get}
 use Rattle.std.proofs.lemmas.Option.{slice_get_within}
 use Rattle.ppp_auto.specs.Auto.{Auto}
 use Rattle.ppp_duet.specs.Duet.{Setup, without}
-use Rattle.ppp_duet.specs.Span.{Narrow, widest, span_of}
+use Rattle.ppp_duet.specs.Span.{Narrow, widest}
 use Rattle.ppp_duet.proofs.Queues.{by_request, marks_without}
 use Rattle.ppp_packet.specs.declared.proto.Proto.{Proto}
 use Rattle.ppp_link.specs.Automata.{auto_at, automata_begun}
@@ -14,12 +14,12 @@ use Rattle.ppp_station.specs.Station.{link_ready}
 use Rattle.ppp_station.specs.StationOut.{AreShort}
 use Rattle.ppp_station.specs.Steps.{Happening, LineDown, Takes, link_done}
 use Rattle.ppp_party.specs.Frame.{Frame, only}
-use Rattle.ppp_party.specs.Held.{HeldAfter, IsHeld, IsLone, KeptOn}
+use Rattle.ppp_party.specs.Held.{HeldAfter, IsHeld, IsLone}
 use Rattle.ppp_party.specs.Kept.{Kept, duet_of}
-use Rattle.ppp_party.specs.Ledger.{Ledger, end_of, first_id, ledger_at, ledger_begun}
+use Rattle.ppp_party.specs.Ledger.{Ledger, end_of, first_id, ledger_at}
 use Rattle.ppp_party.specs.Party.{Ends, delivers, downs, ends_begun, happens, loses, party_begun, cleared, reboots, room, turned}
-use Rattle.ppp_party.specs.Seat.{Came, IsNoFrame, IsSpoken, Seat, SeatAt, seat_duet, seat_happens}
-use Rattle.ppp_party.specs.Spans.{NarrowOn, ledger_if, sent_on, span_on}
+use Rattle.ppp_party.specs.Seat.{Came, IsNoFrame, IsSpoken, Seat, SeatAt, seat_happens}
+use Rattle.ppp_party.specs.Spans.{NarrowOn, ledger_if, sent_on}
 use Rattle.ppp_party.proofs.DownLemmas.{down-short}
 use Rattle.ppp_party.proofs.KeptLemmas.{IsSame, begins-kept, came-kept, other-at, other_with, queues-at, reboots-kept, turned-kept}
 use Rattle.ppp_party.proofs.LoneLemmas.{Becomes, Goes, delivers-goes, happens-goes, happens-so, loses-goes}

@@ -11,7 +11,7 @@ use Rattle.ppp_packet.specs.declared.proto.Proto.{Proto}
 use Rattle.ppp_link.specs.Link.{Link}
 use Rattle.ppp_station.specs.Station.{link_ready}
 use Rattle.ppp_station.specs.StationOut.{AreShort}
-use Rattle.ppp_station.specs.Steps.{Happening as Happens, LineDown, Takes, link_done}
+use Rattle.ppp_station.specs.Steps.{Happening as Happens, Takes, link_done}
 use Rattle.ppp_party.specs.Events.{DeliversFirst, AreCaused, IsCaused, Leads, Makes}
 use Rattle.ppp_party.specs.Frame.{Frame, only}
 use Rattle.ppp_party.specs.Kept.{Kept, duet_of}

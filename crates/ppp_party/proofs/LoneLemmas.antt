@@ -1,14 +1,13 @@
 -- What an event at an end makes of a link, for a protocol that only one end speaks.
-use Rattle.std.proofs.Common.{◌≡◌, ◌≢◌, ℕ, ◌+◌, ◌-◌, ◌≤◌, Bool, true, false, if◌then◌else◌, List, [], ◌∷◌, ◌++◌, length, refl, sym, ap, subst, ◌∙◌, inl, inr, take, length-take, arith}
+use Rattle.std.proofs.Common.{◌≡◌, ◌≢◌, ℕ, ◌-◌, ◌≤◌, Bool, true, false, if◌then◌else◌, List, [], ◌∷◌, ◌++◌, length, refl, sym, ap, subst, ◌∙◌, inl, inr, length-take, arith}
 use Rattle.std.specs.Prelude.{◌⊎◌, Option, Some, None, slice_get}
-use Rattle.std.specs.List.{AllByRecursion}
 use Rattle.std.proofs.lemmas.Grind.{flat_map-append}
 use Rattle.ppp_auto.specs.Auto.{Auto, is_off}
 use Rattle.ppp_auto.specs.Packet.{Packet, Request, Ack, Nak, Reject, Other, packet_of}
 use Rattle.ppp_auto.specs.declared.auto_state.AutoState.{AutoState}
 use Rattle.ppp_packet.specs.declared.proto.Proto.{Proto}
 use Rattle.ppp_duet.specs.Duet.{without}
-use Rattle.ppp_duet.proofs.Queues.{by_request, marks_append, marks_without}
+use Rattle.ppp_duet.proofs.Queues.{by_request, marks_append}
 use Rattle.ppp_link.specs.Automata.{auto_at}
 use Rattle.ppp_link.specs.Link.{Link}
 use Rattle.ppp_station.specs.Orders.{Order, Commands, SetsCap, Hears, RejectsProtocol, auto_by, of_link, orders, sent_by}
@@ -16,9 +15,9 @@ use Rattle.ppp_station.specs.Station.{on_link}
 use Rattle.ppp_station.specs.StationOut.{AreShort}
 use Rattle.ppp_station.specs.Steps.{Happening, Takes, link_done}
 use Rattle.ppp_station.proofs.WovenLemmas.{done-auto, done-sent, done-tables}
-use Rattle.ppp_party.specs.Frame.{Frame, carried, marked_frames, noted_frames, only, packets_for, seen}
+use Rattle.ppp_party.specs.Frame.{Frame, carried, marked_frames, only, packets_for, seen}
 use Rattle.ppp_party.specs.Ledger.{Ledger, Ledgers, heard, ledger_at, noted_all, stamped}
-use Rattle.ppp_party.specs.Party.{Ends, at_link, delivers, happens, heard_by, heard_on, heard_packet, loses, posted, pushes_on, queued, room, taking_front, turned, with_heard}
+use Rattle.ppp_party.specs.Party.{Ends, at_link, delivers, happens, heard_by, heard_on, heard_packet, loses, posted, pushes_on, queued, room, taking_front, with_heard}
 use Rattle.ppp_party.specs.Seat.{Seat, SeatAt, seat_happens, seat_loses, seat_posted, seat_taking}
 use Rattle.ppp_party.proofs.KeptLemmas.{IsSame}
 use Rattle.ppp_party.proofs.LedgerLemmas.{read_all}
@@ -197,7 +196,7 @@ taking-by p l m word f rest e s k low least there front short few at (inl same) 
     let goes : Goes l l p e s (took l word f rest s.link e) = record {
       new = seat_taking l word f rest s;
       at = posted-own (Takes f.octets) l word f.mark (record e { own = with_heard l word f rest (Some s.link) e.own }) (record s { ledgers = heard_on s.link f word s.ledgers; incoming = rest }) low
-      (heard-own l word f rest e s low here);
+          (heard-own l word f rest e s low here);
       becomes = taking-so p l word f rest s queue sends;
       elsewhere = λ other. absurd (other refl);
       same = record { links = refl; ledgers = refl };

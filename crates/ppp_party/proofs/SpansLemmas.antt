@@ -1,5 +1,5 @@
 -- No ordinal falls within a step; and where none has risen by the end of it, a narrow state stays narrow.
-use Rattle.std.proofs.Common.{◌≡◌, ℕ, zero, suc, ◌+◌, ◌-◌, ◌≤◌, Bool, true, false, if◌then◌else◌, List, [], ◌∷◌, ◌++◌, take, drop, refl, sym, ap, subst, ◌∙◌, append-nil, take-append-drop, arith}
+use Rattle.std.proofs.Common.{◌≡◌, ℕ, ◌+◌, ◌-◌, ◌≤◌, Bool, true, false, if◌then◌else◌, List, [], ◌∷◌, ◌++◌, take, drop, sym, ap, subst, ◌∙◌, append-nil, take-append-drop, arith}
 use Rattle.std.specs.Prelude.{Option, Some, None, ◌==◌, slice_get}
 use Rattle.std.specs.List.{AllByRecursion}
 use Rattle.std.proofs.lemmas.Grind.{flat_map-append}
@@ -8,14 +8,13 @@ use Rattle.ppp_auto.specs.EventTable.{asks, cell_of}
 use Rattle.ppp_auto.specs.Packet.{Packet, Request, Ack, Nak, Reject, Other}
 use Rattle.ppp_auto.specs.Taken.{Taken, kind}
 use Rattle.ppp_auto.specs.declared.input.Input.{Input}
-use Rattle.ppp_packet.specs.ConfigOption.{ConfigOption}
 use Rattle.ppp_packet.specs.declared.proto.Proto.{Proto}
 use Rattle.ppp_duet.specs.Duet as duet
 use Rattle.ppp_duet.specs.Duet.{Duet, End, Event, Marked, Setup, at_first, does, does_if, got_after, run, takes}
-use Rattle.ppp_duet.specs.Span.{Narrow, answers, least, request_mark, requests, span_of, widest}
+use Rattle.ppp_duet.specs.Span.{Narrow, answers, least, requests, span_of, widest}
 use Rattle.ppp_duet.proofs.Queues.{all_front, by_request}
 use Rattle.ppp_duet.proofs.SpanLemmas.{narrow_still}
-use Rattle.ppp_party.specs.Events.{AreCaused, DeliversFirst, IsCaused, IsNoReboot, Makes}
+use Rattle.ppp_party.specs.Events.{AreCaused, DeliversFirst, IsNoReboot, Makes}
 use Rattle.ppp_party.specs.Frame.{Frame, only, seen}
 use Rattle.ppp_party.specs.Kept.{Kept, duet_of}
 use Rattle.ppp_party.specs.Ledger.{Ledger, Ledgers, end_of, last_of, ledger_at, noted, stamped}

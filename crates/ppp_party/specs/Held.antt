@@ -25,6 +25,7 @@ pub record IsLone (m : ℕ) (p : Proto) (e : Ends) : Type 0 where
   pub other_at : SeatAt m (turned e) other
   pub few_out : length own.outgoing ≤ room
   pub few_in : length own.incoming ≤ room
+  -- no automaton of it is there, and none will be when the end begins anew
   pub silent : auto_at other.link.automata p ≡ None
   pub unset : auto_at (automata_begun other.link.tables) p ≡ None
   pub none_sent : (ledger_at other.ledgers p).n ≡ 0
