@@ -11,8 +11,8 @@ use Rattle.ppp_packet.specs.declared.proto.Proto.{Proto}
 use Rattle.ppp_link.specs.Link.{Link}
 use Rattle.ppp_station.specs.Station.{link_ready}
 use Rattle.ppp_station.specs.StationOut.{AreShort}
-use Rattle.ppp_station.specs.Steps.{Happening as Happens, LineDown, Takes, link_done}
-use Rattle.ppp_party.specs.Events.{DeliversFirst, HaveNoDelivery, IsNoDelivery, Leads, Makes}
+use Rattle.ppp_station.specs.Steps.{Happening as Happens, Takes, link_done}
+use Rattle.ppp_party.specs.Events.{DeliversFirst, AreCaused, IsCaused, Leads, Makes}
 use Rattle.ppp_party.specs.Frame.{Frame, only}
 use Rattle.ppp_party.specs.Kept.{Kept, duet_of}
 use Rattle.ppp_party.specs.Ledger.{end_of, ledger_at}
@@ -23,21 +23,21 @@ use Rattle.ppp_party.proofs.SeatLemmas.{delivers-came, happens-came, loses-came}
 
 -- ---- states that are led to
 
-no-delivery : (what : Happening) (d : Duet) → IsNoDelivery what → NarrowIfTaken what d
+no-delivery : (what : Happening) (d : Duet) → IsCaused what → NarrowIfTaken what d
 no-delivery (duet.Commands event) d none = λ same. absurd (cc)
 no-delivery (duet.SetsCap cap) d none = λ same. absurd (cc)
 no-delivery (duet.RejectsProtocol id octets) d none = λ same. absurd (cc)
 no-delivery duet.Delivers d none = absurd none
 no-delivery (duet.Loses place) d none = λ same. absurd (cc)
-no-delivery duet.Reboots d none = λ same. absurd (cc)
+no-delivery duet.Reboots d none = absurd none
 
-none-taken : (sa sb : Setup) (es : List Event) (d : Duet) → HaveNoDelivery es → IsNarrowWhereTaken sa sb es d
+none-taken : (sa sb : Setup) (es : List Event) (d : Duet) → AreCaused es → IsNarrowWhereTaken sa sb es d
 none-taken sa sb [] d none = tt
 none-taken sa sb (e ∷ es) d none = (no-delivery e.what d none.0, none-taken sa sb es (duet.happens sa sb d e) none.1)
 
 first-taken : (sa sb : Setup) (es : List Event) (d : Duet) → DeliversFirst es → Narrow d → IsNarrowWhereTaken sa sb es d
 first-taken sa sb [] d first narrow = tt
-first-taken sa sb (e ∷ es) d first narrow = (λ same. narrow, none-taken sa sb es (duet.happens sa sb d e) first)
+first-taken sa sb (e ∷ es) d first narrow = (λ same. narrow, none-taken sa sb es (duet.happens sa sb d e) first.1)
 
 pub reached-makes : (sa sb : Setup) (a b : Duet) → Narrow a → Makes sa sb a b → Reached sa sb a → Reached sa sb b
 reached-makes sa sb a b narrow makes reached = subst (Reached sa sb) makes.leads (reached_more sa sb a makes.events (first-taken sa sb makes.events a makes.first narrow) reached)
@@ -49,10 +49,10 @@ pub record IsSame (before after : Ends) : Type 0 where
   pub links : after.other.links ≡ before.other.links
   pub ledgers : after.other.ledgers ≡ before.other.ledgers
 
-abbrev other_with : Seat → Seat → Seat
+abbrev pub other_with : Seat → Seat → Seat
 other_with o s = record { link = o.link; ledgers = o.ledgers; incoming = s.outgoing; outgoing = s.incoming }
 
-other-at : (m : ℕ) (before after : Ends) (o s : Seat) → IsSame before after → SeatAt m (turned before) o → SeatAt m after s → SeatAt m (turned after) (other_with o s)
+pub other-at : (m : ℕ) (before after : Ends) (o s : Seat) → IsSame before after → SeatAt m (turned before) o → SeatAt m after s → SeatAt m (turned after) (other_with o s)
 other-at m before after o s same was at = record {
   link = ap (λ ks. slice_get ks (m - 1)) same.links ∙ was.link;
   ledgers = ap (λ gs. slice_get gs (m - 1)) same.ledgers ∙ was.ledgers;
@@ -61,11 +61,11 @@ other-at m before after o s same was at = record {
 }
 
 -- the two queues are the same from both ends
-record AreQueues (own other : Seat) : Type 0 where
-  incoming : other.incoming ≡ own.outgoing
-  outgoing : other.outgoing ≡ own.incoming
+pub record AreQueues (own other : Seat) : Type 0 where
+  pub incoming : other.incoming ≡ own.outgoing
+  pub outgoing : other.outgoing ≡ own.incoming
 
-queues-at : (m : ℕ) (e : Ends) (s o : Seat) → SeatAt m e s → SeatAt m (turned e) o → AreQueues s o
+pub queues-at : (m : ℕ) (e : Ends) (s o : Seat) → SeatAt m e s → SeatAt m (turned e) o → AreQueues s o
 queues-at m e s o own other = record {
   incoming = let both : Some o.incoming ≡ Some s.outgoing = sym other.incoming ∙ own.outgoing in cc;
   outgoing = let both : Some o.outgoing ≡ Some s.incoming = sym other.outgoing ∙ own.incoming in cc;
@@ -188,7 +188,7 @@ loses-kept sa sb p l m place e k low least narrow =
     came-kept sa sb p m e _ k (loses-same l place e) narrow
     (loses-came sa sb p l m place e k.own k.own_auto (end_of k.other_auto (ledger_at k.other.ledgers p)) low least k.own_seated.at k.own_seated.well k.own_seated.end)
 
-pub reboots-kept : (sa sb : Setup) (p : Proto) (m word : ℕ) (e : Ends) (k : Kept sa sb p m e) → 1 ≤ m → AreShort (link_done LineDown m k.other.link word).out → Kept sa sb p m (reboots word e)
-reboots-kept sa sb p m word e k least short =
+pub reboots-kept : (sa sb : Setup) (p : Proto) (m word : ℕ) (e : Ends) (k : Kept sa sb p m e) → 1 ≤ m → Kept sa sb p m (reboots word e)
+reboots-kept sa sb p m word e k least =
     anew-kept sa sb p m (rebooted sa sb word (duet_of k)) _ (reached_on sa sb (duet_of k) (record { side = duet.A; what = duet.Reboots; word = word }) (λ same. absurd (cc)) k.reached)
-    (reboots-came sa sb p m word e k.own k.other k.own_auto k.other_auto least short k.own_seated.at k.own_seated.end k.other_seated.at k.other_seated.well.settled k.other_seated.end)
+    (reboots-came sa sb p m word e k.own k.other k.own_auto k.other_auto least k.own_seated.at k.own_seated.end k.other_seated.at k.other_seated.well.settled k.other_seated.end)

@@ -1,5 +1,8 @@
+mod DownLemmas
+mod HeldLemmas
 mod KeptLemmas
 mod LedgerLemmas
+mod LoneLemmas
 mod OrderLemmas
 mod PostLemmas
 mod ReadLemmas
@@ -7,4 +10,5 @@ mod ReaderLemmas
 mod RebootLemmas
 mod SeatLemmas
 mod SentLemmas
+mod SpansLemmas
 mod StepLemmas

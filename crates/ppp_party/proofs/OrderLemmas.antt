@@ -215,7 +215,7 @@ frame-run sa sb a g word b m rest to_b octets os reads none kept =
       kept = subst (λ g. IsLedgerOf did.auto g) ledger more.kept;
       events = record {
         events = at_own duet.Delivers word ∷ more.events.events;
-        first = more.events.none;
+        first = (tt, more.events.none);
         leads = ap (λ d. run sa sb more.events.events (with_a (duet_with a g b rest to_b) d)) (taken_seen sa a g m word kept)
             ∙ more.events.leads
             ∙ (λ i. duet_with did.auto (ledger i) b rest (out i));

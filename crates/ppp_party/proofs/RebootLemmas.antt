@@ -27,10 +27,11 @@ use Rattle.ppp_station.specs.Station.{link_ready, on_link, opens_all}
 use Rattle.ppp_party.specs.Frame.{Frame, marked_frames, noted_frames, only, packets_for, seen}
 use Rattle.ppp_duet.specs.Duet as duet
 use Rattle.ppp_duet.specs.Duet.{Did, Duet, End, Event, Marked, Setup, at_first, run}
-use Rattle.ppp_party.specs.Events.{DeliversFirst, HaveNoDelivery, Leads, Makes}
+use Rattle.ppp_party.specs.Events.{DeliversFirst, AreCaused, Leads, Makes}
 use Rattle.ppp_party.specs.Ledger.{Ledger, Ledgers, IsLedgerOf, end_of, first_id, ledger_at, ledger_begun, ledgers_begun, noted_all, stamped}
 use Rattle.ppp_party.specs.Party.{Ends, downs, happens, cleared, ends_begun, party_begun, posted, pushes_on, queued, reboots, room, turned, unheard}
 use Rattle.ppp_party.specs.Seat.{Anew, IsEnd, IsSettled, IsSpoken, IsWell, Seat, rebooted, SeatAt, seat_duet, seat_happens}
+use Rattle.ppp_party.proofs.DownLemmas.{down-short}
 use Rattle.ppp_party.proofs.LedgerLemmas.{commanded_kept, commanded_seen, packets_of, proper_command, read_all, sent_in}
 use Rattle.ppp_party.proofs.OrderLemmas.{at_own, duet_with, joined, orders-run}
 use Rattle.ppp_party.proofs.PostLemmas.{marked-frames, noted-frames}
@@ -172,7 +173,7 @@ room-for queue sent = omega (arith, length-take room (queue ++ sent))
 one-more : (l m : ℕ) → l ≤ m → m ≢ l → l + 1 ≤ m
 one-more l m low other = grind arith
 
-downs-by : (n l word m : ℕ) (e : Ends) (s : Seat) → 1 ≤ l → l ≤ m → m < l + n → length s.outgoing ≤ room → SeatAt m e s → (m ≡ l) ⊎ (m ≢ l) → SeatAt m (downs n l word e) (seat_happens LineDown m word s)
+pub downs-by : (n l word m : ℕ) (e : Ends) (s : Seat) → 1 ≤ l → l ≤ m → m < l + n → length s.outgoing ≤ room → SeatAt m e s → (m ≡ l) ⊎ (m ≢ l) → SeatAt m (downs n l word e) (seat_happens LineDown m word s)
 unfolding happens
 downs-by zero l word m e s least low high few at or = absurd (omega (arith, low, high))
 downs-by (suc n) l word m e s least low high few at (inl same) =
@@ -190,7 +191,7 @@ abbrev pub opened_anew : Proto → Table → Auto → Auto
 opened_anew Lcp t a = a
 opened_anew p t a = (command t a AdminOpen 0).auto
 
-ready-auto : (t : LinkTables) (p : Proto) → auto_at (link_ready t).automata p ≡ option_map (opened_anew p (table_of t p)) (auto_at (automata_begun t) p)
+pub ready-auto : (t : LinkTables) (p : Proto) → auto_at (link_ready t).automata p ≡ option_map (opened_anew p (table_of t p)) (auto_at (automata_begun t) p)
 unfolding opens_all does
 ready-auto t Lcp = refl
 ready-auto t Ip = refl
@@ -215,7 +216,7 @@ ready-settled : (t : LinkTables) → IsSettled (link_ready t)
 unfolding opens_all
 ready-settled t = record { stands = refl; limit = refl; phased = ready-phased t }
 
-ready-tables : (t : LinkTables) → (link_ready t).tables ≡ t
+pub ready-tables : (t : LinkTables) → (link_ready t).tables ≡ t
 unfolding opens_all
 ready-tables t = refl
 
@@ -261,7 +262,7 @@ begins-as sa sb Bacp b to_a to_b first = opens-as sa sb b to_a to_b first
 
 -- ---- both ends of a protocol
 
-unheard-at : (gs : Ledgers) (p : Proto) → ledger_at (unheard gs) p ≡ record (ledger_at gs p) { got = 0 }
+pub unheard-at : (gs : Ledgers) (p : Proto) → ledger_at (unheard gs) p ≡ record (ledger_at gs p) { got = 0 }
 unheard-at gs Lcp = refl
 unheard-at gs Ip = refl
 unheard-at gs Ipv6 = refl
@@ -269,7 +270,7 @@ unheard-at gs Osi = refl
 unheard-at gs Mpls = refl
 unheard-at gs Bacp = refl
 
-begun-at : (p : Proto) → ledger_at ledgers_begun p ≡ ledger_begun
+pub begun-at : (p : Proto) → ledger_at ledgers_begun p ≡ ledger_begun
 begun-at Lcp = refl
 begun-at Ip = refl
 begun-at Ipv6 = refl
@@ -281,12 +282,12 @@ nil-front : {X : Type 0} (xs ys : List X) → xs ++ ys ≡ [] → xs ≡ []
 nil-front [] ys e = refl
 nil-front (x ∷ xs) ys e = absurd (cc)
 
-none-only : (p : Proto) (queue : List Frame) (n : ℕ) → only p queue ≡ [] → only p (take n queue) ≡ []
+pub none-only : (p : Proto) (queue : List Frame) (n : ℕ) → only p queue ≡ [] → only p (take n queue) ≡ []
 none-only p queue n none =
     nil-front (only p (take n queue)) (only p (drop n queue)) (sym (flat_map-append (seen p) (take n queue) (drop n queue)) ∙ ap (only p) (take-append-drop n queue) ∙ none)
 
 -- the other end, whose line went down behind the loss of all that was under way
-abbrev silenced : Seat → Seat
+abbrev pub silenced : Seat → Seat
 silenced o = record { link = o.link; ledgers = unheard o.ledgers; incoming = []; outgoing = [] }
 
 record WentDown (sb : Setup) (p : Proto) (m word : ℕ) (o : Seat) (b : Auto) : Type 0 where
@@ -347,15 +348,15 @@ restarted sa sb p m word o a b to_a to_b kept w =
 
 -- ---- among all links
 
-downs-other : (n l word : ℕ) (e : Ends) → ((downs n l word e).other.links ≡ e.other.links) × ((downs n l word e).other.ledgers ≡ e.other.ledgers)
+pub downs-other : (n l word : ℕ) (e : Ends) → ((downs n l word e).other.links ≡ e.other.links) × ((downs n l word e).other.ledgers ≡ e.other.ledgers)
 unfolding happens
 downs-other zero l word e = (refl, refl)
 downs-other (suc n) l word e = downs-other n (l + 1) word (posted 0 (on_link LineDown l e.own.links word) e)
 
-mapped-there : {X Y : Type 0} (f : X → Y) (xs : List X) (i : ℕ) (x : X) → slice_get xs i ≡ Some x → slice_get (map f xs) i ≡ Some (f x)
+pub mapped-there : {X Y : Type 0} (f : X → Y) (xs : List X) (i : ℕ) (x : X) → slice_get xs i ≡ Some x → slice_get (map f xs) i ≡ Some (f x)
 mapped-there f xs i x is = slice_get-map f xs i ∙ ap (option_map f) is
 
-silenced-at : (m : ℕ) (e : Ends) (s o : Seat) → SeatAt m e s → SeatAt m (turned e) o →
+pub silenced-at : (m : ℕ) (e : Ends) (s o : Seat) → SeatAt m e s → SeatAt m (turned e) o →
     SeatAt m (record { own = cleared e.other; other = party_begun (map (λ k. link_ready k.tables) e.own.links) }) (silenced o)
 silenced-at m e s o at_own at_other = record {
   link = at_other.link;
@@ -365,7 +366,7 @@ silenced-at m e s o at_own at_other = record {
 }
 
 -- a link as a station begins with it, with these frames under way to it
-abbrev seat_begun : LinkTables → List Frame → Seat
+abbrev pub seat_begun : LinkTables → List Frame → Seat
 seat_begun t incoming = record { link = link_ready t; ledgers = ledgers_begun; incoming = incoming; outgoing = [] }
 
 begun-end : (sa : Setup) (p : Proto) (t : LinkTables) (incoming : List Frame) → IsSpoken sa p t → IsEnd sa p (seat_begun t incoming) (opened_anew p sa.table (begun sa.table first_id))
@@ -380,11 +381,11 @@ begun-end sa p t incoming spoken =
       kept = subst (λ g. IsLedgerOf auto g) (sym (begun-at p)) opened.kept;
     }
 
-pub reboots-came : (sa sb : Setup) (p : Proto) (m word : ℕ) (e : Ends) (s o : Seat) (a b : Auto) → 1 ≤ m →
-    AreShort (link_done LineDown m o.link word).out → SeatAt m e s → IsEnd sa p s a → SeatAt m (turned e) o → IsSettled o.link → IsEnd sb p o b →
+pub reboots-came : (sa sb : Setup) (p : Proto) (m word : ℕ) (e : Ends) (s o : Seat) (a b : Auto) → 1 ≤ m → SeatAt m e s → IsEnd sa p s a → SeatAt m (turned e) o → IsSettled o.link → IsEnd sb p o b →
     Anew sa sb p m (rebooted sa sb word (seat_duet p a s (end_of b (ledger_at o.ledgers p)))) (reboots word e)
 unfolding reboots
-reboots-came sa sb p m word e s o a b low short own_at own_end other_at settled other_end =
+reboots-came sa sb p m word e s o a b low own_at own_end other_at settled other_end =
+    let short = down-short m word o.link in
     let n = length e.other.links in
     let start : Ends = record { own = cleared e.other; other = party_begun (map (λ k. link_ready k.tables) e.own.links) } in
     let t = s.link.tables in
@@ -442,14 +443,15 @@ pub flip-run : (sa sb : Setup) (es : List Event) (d : Duet) → duet.turned (run
 flip-run sa sb [] d = refl
 flip-run sa sb (e ∷ es) d = flip-run sa sb es (duet.happens sa sb d e) ∙ ap (run sb sa (map flipped es)) (flip-one sa sb d e)
 
-flip-none : (es : List Event) → HaveNoDelivery es → HaveNoDelivery (map flipped es)
+flip-none : (es : List Event) → AreCaused es → AreCaused (map flipped es)
 unfolding flipped
 flip-none [] none = tt
 flip-none (e ∷ es) none = (none.0, flip-none es none.1)
 
 pub flip-first : (es : List Event) → DeliversFirst es → DeliversFirst (map flipped es)
+unfolding flipped
 flip-first [] first = tt
-flip-first (e ∷ es) first = flip-none es first
+flip-first (e ∷ es) first = (first.0, flip-none es first.1)
 
 turned-leads : (sa sb : Setup) (a b : Duet) → Leads sa sb a b → Leads sb sa (duet.turned a) (duet.turned b)
 turned-leads sa sb a b l = record { events = map flipped l.events; none = flip-none l.events l.none; leads = sym (flip-run sa sb l.events a) ∙ ap duet.turned l.leads }
@@ -460,7 +462,7 @@ turned-makes sa sb a b l = record { events = map flipped l.events; first = flip-
 
 -- ---- both ends as they begin
 
-seat-begun : (m : ℕ) (own other : List Link) (k j : Link) → slice_get own (m - 1) ≡ Some k → slice_get other (m - 1) ≡ Some j → k ≡ link_ready k.tables →
+pub seat-begun : (m : ℕ) (own other : List Link) (k j : Link) → slice_get own (m - 1) ≡ Some k → slice_get other (m - 1) ≡ Some j → k ≡ link_ready k.tables →
     SeatAt m (ends_begun own other) (seat_begun k.tables [])
 seat-begun m own other k j there here ready = record {
   link = there ∙ ap (λ k. Some k) ready;

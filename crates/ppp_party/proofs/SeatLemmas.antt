@@ -87,7 +87,7 @@ settled-so what l word k phased so =
 
 -- ---- what stays so on a link
 
-length-without : (i : ℕ) (frames : List Frame) → length (without i frames) ≤ length frames
+pub length-without : (i : ℕ) (frames : List Frame) → length (without i frames) ≤ length frames
 length-without i [] = omega arith
 length-without zero (f ∷ fs) = omega arith
 length-without (suc zero) (f ∷ fs) = omega arith
@@ -143,7 +143,7 @@ same-or m l = by (m == l) refl
     by true e = inl (eqb-true m l e)
     by false e = inr (eqb-false m l e)
 
-at-own : {X : Type 0} (l : ℕ) (f : X → X) (xs : List X) (x : X) → 1 ≤ l → slice_get xs (l - 1) ≡ Some x → slice_get (at_link l f xs) (l - 1) ≡ Some (f x)
+pub at-own : {X : Type 0} (l : ℕ) (f : X → X) (xs : List X) (x : X) → 1 ≤ l → slice_get xs (l - 1) ≡ Some x → slice_get (at_link l f xs) (l - 1) ≡ Some (f x)
 at-own l f [] x low is = absurd (cc)
 at-own zero f (y ∷ ys) x low is = absurd (omega arith)
 at-own (suc zero) f (y ∷ ys) x low is = ap (option_map f) is
@@ -152,7 +152,7 @@ at-own (suc (suc l)) f (y ∷ ys) x low is =
     let there : slice_get ys (suc l - 1) ≡ Some x = rw e at is in
     rw e (at-own (suc l) f ys x (omega arith) there)
 
-at-others : {X : Type 0} (l m : ℕ) (f : X → X) (xs : List X) → 1 ≤ m → m ≢ l → slice_get (at_link l f xs) (m - 1) ≡ slice_get xs (m - 1)
+pub at-others : {X : Type 0} (l m : ℕ) (f : X → X) (xs : List X) → 1 ≤ m → m ≢ l → slice_get (at_link l f xs) (m - 1) ≡ slice_get xs (m - 1)
 at-others l m f [] low other = refl
 at-others zero m f (y ∷ ys) low other = refl
 at-others (suc zero) zero f (y ∷ ys) low other = absurd (omega arith)
@@ -206,7 +206,7 @@ posted-others what l m word mark e s low other few at =
     }
 
 -- the front frame is taken out and heard of
-heard-own : (l word : ℕ) (f : Frame) (rest : List Frame) (e : Ends) (s : Seat) → 1 ≤ l → SeatAt l e s →
+pub heard-own : (l word : ℕ) (f : Frame) (rest : List Frame) (e : Ends) (s : Seat) → 1 ≤ l → SeatAt l e s →
     SeatAt l (record e { own = with_heard l word f rest (Some s.link) e.own }) (record s { ledgers = heard_on s.link f word s.ledgers; incoming = rest })
 heard-own l word f rest e s low at = record {
   link = at.link;
@@ -215,7 +215,7 @@ heard-own l word f rest e s low at = record {
   outgoing = at.outgoing;
 }
 
-heard-others : (l m word : ℕ) (f : Frame) (rest : List Frame) (e : Ends) (s : Seat) (k : Link) → 1 ≤ m → m ≢ l → SeatAt m e s →
+pub heard-others : (l m word : ℕ) (f : Frame) (rest : List Frame) (e : Ends) (s : Seat) (k : Link) → 1 ≤ m → m ≢ l → SeatAt m e s →
     SeatAt m (record e { own = with_heard l word f rest (Some k) e.own }) s
 heard-others l m word f rest e s k low other at = record {
   link = at.link;

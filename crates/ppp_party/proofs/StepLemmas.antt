@@ -32,7 +32,7 @@ use Rattle.ppp_station.proofs.FrameLemmas.{control-read}
 use Rattle.ppp_station.proofs.OrdersLemmas.{same-proto}
 use Rattle.ppp_station.proofs.SignalLemmas.{all_caused}
 use Rattle.ppp_station.proofs.WovenLemmas.{done-auto, done-sent, done-tables}
-use Rattle.ppp_party.specs.Events.{HaveNoDelivery, DeliversFirst, Leads, Makes}
+use Rattle.ppp_party.specs.Events.{AreCaused, DeliversFirst, IsCaused, IsNoReboot, Leads, Makes}
 use Rattle.ppp_party.specs.Frame.{Carried, Frame, carried, carried_as, carried_by, marked_for, marked_frames, noted_frames, only, packet_for, packets_for, seen}
 use Rattle.ppp_party.specs.Ledger.{Ledger, Ledgers, IsLedgerOf, end_of, heard, ledger_at, noted_all, stamped}
 use Rattle.ppp_party.specs.Party.{heard_by, heard_on, heard_packet, pushes_on}
@@ -158,16 +158,24 @@ read-orders p t word (Some read) k = frame-orders p t word read.protocol read.in
 
 -- ---- events of which only the first may be a delivery
 
-first-of : (es : List Event) → HaveNoDelivery es → DeliversFirst es
+pub caused-first : (what : duet.Happening) → IsCaused what → IsNoReboot what
+caused-first (duet.Commands event) none = tt
+caused-first (duet.SetsCap cap) none = tt
+caused-first (duet.RejectsProtocol id octets) none = tt
+caused-first duet.Delivers none = absurd none
+caused-first (duet.Loses place) none = tt
+caused-first duet.Reboots none = absurd none
+
+first-of : (es : List Event) → AreCaused es → DeliversFirst es
 first-of [] none = tt
-first-of (e ∷ es) none = none.1
+first-of (e ∷ es) none = (caused-first e.what none.0, none.1)
 
 pub leads-makes : (sa sb : Setup) (a b : Duet) → Leads sa sb a b → Makes sa sb a b
 leads-makes sa sb a b l = record { events = l.events; first = first-of l.events l.none; leads = l.leads }
 
-first-append : (es fs : List Event) → DeliversFirst es → HaveNoDelivery fs → DeliversFirst (es ++ fs)
+first-append : (es fs : List Event) → DeliversFirst es → AreCaused fs → DeliversFirst (es ++ fs)
 first-append [] fs first none = first-of fs none
-first-append (e ∷ es) fs first none = AllByRecursion-append _ es fs first none
+first-append (e ∷ es) fs first none = (first.0, AllByRecursion-append _ es fs first.1 none)
 
 makes-then : (sa sb : Setup) (a b c : Duet) → Makes sa sb a b → Leads sa sb b c → Makes sa sb a c
 makes-then sa sb a b c one two = record {
@@ -239,7 +247,7 @@ happens-makes sa sb p what l word s a b quiet short end =
 
 -- ---- the front frame is taken
 
-heard-at : (k : Link) (f : Frame) (word : ℕ) (gs : Ledgers) (p : Proto) →
+pub heard-at : (k : Link) (f : Frame) (word : ℕ) (gs : Ledgers) (p : Proto) →
     ledger_at (heard_on k f word gs) p ≡ heard_by (ledger_at gs p) (auto_at k.automata p) f.mark (of_link p (Takes f.octets) k word)
 heard-at k f word gs Lcp = refl
 heard-at k f word gs Ip = refl
@@ -367,12 +375,12 @@ taking-makes sa sb p l word f rest s a b front settled sent short end =
 
 -- ---- a frame is lost
 
-none-without : {X : Type 0} (xs : List X) → without 0 xs ≡ xs
+pub none-without : {X : Type 0} (xs : List X) → without 0 xs ≡ xs
 none-without [] = refl
 none-without (x ∷ xs) = refl
 
 -- one list is the other without what stands at some place, or nothing is missing
-abbrev IsLess : List Marked → List Marked → Type 0
+abbrev pub IsLess : List Marked → List Marked → Type 0
 IsLess ms all = (i : ℕ) × (ms ≡ without i all)
 
 less-front : (mark : ℕ) (packet : Packet) (same : Bool) (ms : List Marked) → IsLess ms (marked_for mark (if same then packet ∷ [] else []) ++ ms)
@@ -388,7 +396,7 @@ less-if : (mark : ℕ) (packet : Packet) (same : Bool) (ms all : List Marked) �
 less-if mark packet true ms all less = less-behind (record { mark = mark; packet = packet }) ms all less
 less-if mark packet false ms all less = less
 
-less-first : (mark : ℕ) (p : Proto) (c : Option Carried) (ms : List Marked) → IsLess ms (marked_for mark (packet_for p c) ++ ms)
+pub less-first : (mark : ℕ) (p : Proto) (c : Option Carried) (ms : List Marked) → IsLess ms (marked_for mark (packet_for p c) ++ ms)
 less-first mark p None ms = (0, sym (none-without ms))
 less-first mark p (Some c) ms = less-front mark c.packet (is_same p c.proto) ms
 
@@ -397,7 +405,7 @@ less-more mark p None ms all less = less
 less-more mark p (Some c) ms all less = less-if mark c.packet (is_same p c.proto) ms all less
 
 -- the frame of a place carries a packet of the protocol or not
-less-without : (p : Proto) (place : ℕ) (frames : List Frame) → IsLess (only p (without place frames)) (only p frames)
+pub less-without : (p : Proto) (place : ℕ) (frames : List Frame) → IsLess (only p (without place frames)) (only p frames)
 less-without p place [] = (0, refl)
 less-without p zero (f ∷ fs) = (0, sym (none-without (only p (f ∷ fs))))
 less-without p (suc zero) (f ∷ fs) = less-first f.mark p (carried f.octets) (only p fs)
@@ -412,7 +420,7 @@ loses-makes sa sb p place s a b end =
       end = record { spoken = end.spoken; auto = end.auto; kept = end.kept };
       makes = record {
         events = at_own (duet.Loses less.0) 0 ∷ [];
-        first = tt;
+        first = (tt, tt);
         leads = ap (λ ms. duet_with a (ledger_at s.ledgers p) b ms (only p s.outgoing)) (sym less.1);
       };
     }

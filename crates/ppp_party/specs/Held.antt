@@ -2,7 +2,7 @@
 -- makes of it.
 use Rattle.std.specs.Prelude.{◌≡◌, ◌≢◌, ◌≤◌, ◌⊎◌, ℕ, [], length, None}
 use Rattle.ppp_duet.specs.Duet.{Setup}
-use Rattle.ppp_link.specs.Automata.{auto_at}
+use Rattle.ppp_link.specs.Automata.{auto_at, automata_begun}
 use Rattle.ppp_packet.specs.declared.proto.Proto.{Proto}
 use Rattle.ppp_party.specs.Frame.{only}
 use Rattle.ppp_party.specs.Kept.{Kept}
@@ -25,7 +25,9 @@ pub record IsLone (m : ℕ) (p : Proto) (e : Ends) : Type 0 where
   pub other_at : SeatAt m (turned e) other
   pub few_out : length own.outgoing ≤ room
   pub few_in : length own.incoming ≤ room
+  -- no automaton of it is there, and none will be when the end begins anew
   pub silent : auto_at other.link.automata p ≡ None
+  pub unset : auto_at (automata_begun other.link.tables) p ≡ None
   pub none_sent : (ledger_at other.ledgers p).n ≡ 0
   pub none_under_way : only p own.incoming ≡ []
 
