@@ -10,7 +10,7 @@ use Rattle.ppp_duet.proofs.ReachedLemmas.{reached_start, agreement_at}
 use Rattle.ppp_duet.proofs.SpanLemmas.{narrow_start}
 use Rattle.ppp_script.specs.Event.{steps_in}
 use Rattle.ppp_script.specs.declared.event.Event.{Event}
-use Rattle.ppp_script.specs.declared.event.Event.TheVariants.{Up, Down, AdminOpen, AdminClose, Timeout, Deliver, Lose, Settle, Show}
+use Rattle.ppp_script.specs.declared.event.Event.TheVariants.{Up, Down, AdminOpen, AdminClose, Timeout, Deliver, Lose, Settle, Reboot, Show}
 use Rattle.ppp_world.specs.Agreement.{AgreesIfOpened, AgreesEverywhere}
 use Rattle.ppp_auto.specs.Lawful.{Lawful}
 use Rattle.ppp_lcp.specs.LcpLaw.{lcp_fits, lcp_is_table}
@@ -79,6 +79,7 @@ length-moments s (Timeout e link proto) p = refl
 length-moments s (Deliver e link) p = refl
 length-moments s (Lose e link place) p = refl
 length-moments s (Settle count) p = length-deliveries s count p
+length-moments s (Reboot e) p = refl
 length-moments s Show p = refl
 
 pub steps-settling : (event : Event) (count : ℕ) → settling event ≡ Some count → steps_in event ≡ count

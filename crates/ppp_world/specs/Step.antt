@@ -12,7 +12,7 @@ use Rattle.ppp_packet.specs.declared.proto.Proto.TheVariants.{Lcp}
 use Rattle.ppp_script.specs.declared.end.End.{End}
 use Rattle.ppp_script.specs.declared.end.End.TheVariants.{A, B}
 use Rattle.ppp_script.specs.declared.event.Event.{Event}
-use Rattle.ppp_script.specs.declared.event.Event.TheVariants.{Up, Down, AdminOpen, AdminClose, Timeout, Deliver, Lose, Settle, Show}
+use Rattle.ppp_script.specs.declared.event.Event.TheVariants.{Up, Down, AdminOpen, AdminClose, Timeout, Deliver, Lose, Settle, Reboot, Show}
 use Rattle.ppp_world.specs.Settings.{Settings, setup_of}
 use Rattle.ppp_world.specs.declared.queue.TheConstants.{ROOM}
 use Rattle.ppp_world.specs.declared.step.TheConstants.{ONLY_LINK}
@@ -48,6 +48,7 @@ step_of (Timeout e link proto) = on_link link (on_lcp proto (Happens e (what.Com
 step_of (Deliver e link) = on_link link (Happens e what.Deliver)
 step_of (Lose e link place) = on_link link (Happens e (what.Lose place))
 step_of (Settle count) = Rests
+step_of (Reboot e) = Rests
 step_of Show = Reports
 
 -- an event settles by so many deliveries, or is one step

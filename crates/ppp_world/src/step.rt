@@ -61,6 +61,7 @@ impl Step {
                 Step::Happens(end, Happening::Lose(place)),
             ),
             Event::Settle(_) => Step::Rests,
+            Event::Reboot(_) => Step::Rests,
             Event::Show => Step::Reports,
         }
     }
