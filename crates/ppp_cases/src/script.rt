@@ -7,7 +7,7 @@ use std::process::Abort;
 use std::test::Fail;
 
 // A script, how many links are configured, and where and why it is refused.
-static SCRIPTS: [(&str, u8, Option<(u32, LineWhy)>); 23] = [
+static SCRIPTS: [(&str, u8, Option<(u32, LineWhy)>); 27] = [
     ("fly a 1", 1, Some((1, LineWhy::Event))),
     ("up a 2", 1, Some((1, LineWhy::Link))),
     ("up a 2 x", 1, Some((1, LineWhy::Link))),
@@ -25,6 +25,10 @@ static SCRIPTS: [(&str, u8, Option<(u32, LineWhy)>); 23] = [
     ("up a 255", 255, None),
     ("up a 256", 255, Some((1, LineWhy::Event))),
     ("settle 5\nup a 1", 0, Some((2, LineWhy::Link))),
+    ("show\nreboot", 1, Some((2, LineWhy::Event))),
+    ("reboot c", 1, Some((1, LineWhy::Event))),
+    ("reboot a 1", 1, Some((1, LineWhy::Event))),
+    ("reboot a\nreboot b\n", 0, None),
     ("up  a 1", 1, Some((1, LineWhy::Event))),
     ("show ", 1, Some((1, LineWhy::Event))),
     ("# note\n\nshow\r\nclose b 1 lcp\n", 1, None),
@@ -61,6 +65,8 @@ fn reads_and_writes_each_form(rt: HostRuntime) -> Result<(), Fail> {
         ("lose b 1 1024", Event::Lose(End::B, 1, 1024)),
         ("close a 10 osi", Event::AdminClose(End::A, 10, Proto::Osi)),
         ("settle 20", Event::Settle(20)),
+        ("reboot a", Event::Reboot(End::A)),
+        ("reboot b", Event::Reboot(End::B)),
         ("down b 255", Event::Down(End::B, 255)),
         ("show", Event::Show),
     ];

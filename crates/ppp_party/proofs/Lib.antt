@@ -1,5 +1,5 @@
-mod DownLemmas
-mod HeldLemmas
+pub mod DownLemmas
+pub mod HeldLemmas
 mod KeptLemmas
 mod LedgerLemmas
 mod LoneLemmas
@@ -8,7 +8,7 @@ mod PostLemmas
 mod ReadLemmas
 mod ReaderLemmas
 mod RebootLemmas
-mod SeatLemmas
+pub mod SeatLemmas
 mod SentLemmas
 mod SpansLemmas
 mod StepLemmas

@@ -203,7 +203,7 @@ fn feeds_what_was_worked_out(rt: HostRuntime) {
     // LCP without options, and IPCP
     let network = "version = 1\n[a]\nmagic = false\nprotocols = [\"ip\"]\nip = \"10.0.0.1\"\n---\n";
     // what stands before the lines, the lines, the status, and the output
-    let rows: [(&str, &str, Status, &str); 13] = [
+    let rows: [(&str, &str, Status, &str); 14] = [
         // a packet with an unknown code, before LCP is opened
         (
             single,
@@ -230,6 +230,14 @@ fn feeds_what_was_worked_out(rt: HostRuntime) {
              got - ip \n\
              push 1 7eff7d23c0217d257d217d207d243dc77e\n\
              hang 1\n",
+        ),
+        // the Magic-Numbers of two negotiations are the words of steps 2 and 4; the comment is no step
+        (
+            "version = 2\n[a]\nmagic = true\n---\n",
+            "up 1\n# a remark\nopen 1 lcp\ndown 1\nup 1\n",
+            Status::Ok,
+            "push 1 7eff7d23c0217d217d217d207d2a7d257d267d207d207d207d24ad217e\n\
+             push 1 7eff7d23c0217d217d227d207d2a7d257d267d207d207d207d28c63d7e\n",
         ),
         // nothing comes of a protocol that isn't configured, of a timer that isn't on, and of a datagram on a line that is down
         (

@@ -12,12 +12,12 @@ use Rattle.ppp_text.proofs.NumbersLemmas.{number_in-decimal, lacks-decimal}
 use Rattle.ppp_script.specs.declared.end.End.{End}
 use Rattle.ppp_script.specs.declared.end.End.TheVariants.{A, B}
 use Rattle.ppp_script.specs.declared.event.Event.{Event}
-use Rattle.ppp_script.specs.declared.event.Event.TheVariants.{Up, Down, AdminOpen, AdminClose, Timeout, Deliver, Lose, Settle, Show}
+use Rattle.ppp_script.specs.declared.event.Event.TheVariants.{Up, Down, AdminOpen, AdminClose, Timeout, Deliver, Lose, Settle, Reboot, Show}
 use Rattle.ppp_script.specs.declared.field.TheConstants.{MOST_LINKS}
 use Rattle.ppp_script.specs.declared.event.TheConstants.{MOST_PLACE, MOST_SETTLED}
 use Rattle.ppp_script.specs.declared.line_why.LineWhy.{LineWhy}
 use Rattle.ppp_script.specs.End.{end_name}
-use Rattle.ppp_script.specs.Event.{IsWithin, event_fields, event_text, place_in, placed, last_number, place_fields, rows, event_in, event_of}
+use Rattle.ppp_script.specs.Event.{IsWithin, event_fields, event_text, place_in, placed, last_number, last_end, place_fields, rows, event_in, event_of}
 use Rattle.ppp_script.specs.Field.{next_field, no_more, number_field, end_in, link_in, last_protocol, IsLink}
 use Rattle.ppp_script.specs.Results.{◌>>=◌}
 use Rattle.ppp_script.specs.Row.{row, read_as}
@@ -55,6 +55,15 @@ last_number-is least most fits fields n is =
     let made : r.0 ≡ n = cc in
     next_field-is fields t.0 t.1.0 ∙ ap (λ x. x ∷ t.0.1) (number_field-is least most r.0 t.0.0 fits r.1.0) ∙ ap (λ xs. decimal r.0 ∷ xs) (no_more-is t.0.1 b.0 b.1.0) ∙ ap (λ m. decimal m ∷ []) made
 
+last_end-is : (fields : List (List ℕ)) (end : End) → last_end fields ≡ Ok end → fields ≡ end_name end ∷ []
+unfolding last_end
+last_end-is fields end is =
+    let t = inside (next_field fields) (λ first. end_in first.0 >>= (λ end. no_more first.1 >>= (λ nothing. Ok end))) end is in
+    let r = inside (end_in t.0.0) (λ end. no_more t.0.1 >>= (λ nothing. Ok end)) end t.1.1 in
+    let b = inside (no_more t.0.1) (λ nothing. Ok r.0) end r.1.1 in
+    let made : r.0 ≡ end = cc in
+    next_field-is fields t.0 t.1.0 ∙ ap (λ x. x ∷ t.0.1) (end_in-is t.0.0 r.0 r.1.0) ∙ ap (λ xs. end_name r.0 ∷ xs) (no_more-is t.0.1 b.0 b.1.0) ∙ ap (λ e. end_name e ∷ []) made
+
 -- a line is its event's text
 abbrev IsText : List (List ℕ) → Event → Type 0
 IsText fields event = fields ≡ event_fields event
@@ -81,6 +90,9 @@ lose_row links = text_row (codes "lose") (placed links (last_number 1 MOST_PLACE
 settle_row : ReadsIts IsText (row (codes "settle") (read_as (last_number 1 MOST_SETTLED) Settle))
 settle_row = text_row (codes "settle") (last_number 1 MOST_SETTLED) Settle (λ n. decimal n ∷ []) (last_number-is 1 MOST_SETTLED (omega arith)) (λ n. refl)
 
+reboot_row : ReadsIts IsText (row (codes "reboot") (read_as last_end Reboot))
+reboot_row = text_row (codes "reboot") last_end Reboot (λ end. end_name end ∷ []) last_end-is (λ end. refl)
+
 show_row : ReadsIts IsText (row (codes "show") (read_as no_more (λ nothing. Show)))
 show_row = text_row (codes "show") no_more (λ nothing. Show) (λ nothing. []) no_more-is (λ nothing. refl)
 
@@ -88,7 +100,7 @@ rows_are : (links : ℕ) → AllByRecursion (ReadsIts IsText) (rows links)
 rows_are links =
     let by_link = link_row links in
     let by_protocol = protocol_row links in
-    let few : AllByRecursion (ReadsIts IsText) (drop 6 (rows links)) = (lose_row links, (settle_row, (show_row, tt))) in
+    let few : AllByRecursion (ReadsIts IsText) (drop 6 (rows links)) = (lose_row links, (settle_row, (reboot_row, (show_row, tt)))) in
     let some : AllByRecursion (ReadsIts IsText) (drop 4 (rows links)) = (by_protocol (codes "timeout") Timeout (λ e l p. refl), (by_link (codes "deliver") Deliver (λ e l. refl), few)) in
     let more : AllByRecursion (ReadsIts IsText) (drop 2 (rows links)) = (by_protocol (codes "open") AdminOpen (λ e l p. refl), (by_protocol (codes "close") AdminClose (λ e l p. refl), some)) in
     (by_link (codes "up") Up (λ e l. refl), (by_link (codes "down") Down (λ e l. refl), more))
@@ -137,6 +149,11 @@ protocol_reads links link end protocol few is = (
   placed-fields links link end last_protocol (proto_name protocol ∷ []) protocol few is (last_protocol-name protocol),
 )
 
+last_end-name : (end : End) → last_end (end_name end ∷ []) ≡ Ok end
+unfolding last_end
+last_end-name A = refl
+last_end-name B = refl
+
 pub event_of-text : (links : ℕ) (event : Event) → links ≤ MOST_LINKS → IsWithin links event → event_of links (event_text event) ≡ Ok event
 unfolding event_in
 event_of-text links (Up end link) few is =
@@ -162,4 +179,7 @@ event_of-text links (Lose end link place) few is =
 event_of-text links (Settle count) few is =
     event_of-fields links (codes "settle") (decimal count ∷ []) (Settle count) (spaceless (codes "settle") refl) (spaceless_number count (omega (arith, is.1)))
     (rw (last_number-decimal 1 MOST_SETTLED count (omega arith) is.0 is.1) refl)
+event_of-text links (Reboot end) few is =
+    event_of-fields links (codes "reboot") (end_name end ∷ []) (Reboot end) (spaceless (codes "reboot") refl)
+    (All-cons Spaceless (end_name end) [] (spaceless_end end) (All-nil Spaceless)) (rw (last_end-name end) refl)
 event_of-text links Show few is = event_of-fields links (codes "show") [] Show (spaceless (codes "show") refl) (All-nil Spaceless) refl

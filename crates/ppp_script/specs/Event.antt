@@ -5,7 +5,7 @@ use Rattle.ppp_packet.specs.Proto.{proto_name}
 use Rattle.ppp_text.specs.Fields.{fields_of, line_with}
 use Rattle.ppp_script.specs.declared.end.End.{End}
 use Rattle.ppp_script.specs.declared.event.Event.{Event}
-use Rattle.ppp_script.specs.declared.event.Event.TheVariants.{Up, Down, AdminOpen, AdminClose, Timeout, Deliver, Lose, Settle, Show}
+use Rattle.ppp_script.specs.declared.event.Event.TheVariants.{Up, Down, AdminOpen, AdminClose, Timeout, Deliver, Lose, Settle, Reboot, Show}
 use Rattle.ppp_script.specs.declared.event.TheConstants.{MOST_PLACE, MOST_SETTLED}
 use Rattle.ppp_script.specs.declared.line_why.LineWhy.{LineWhy}
 use Rattle.ppp_script.specs.End.{end_name}
@@ -33,6 +33,7 @@ IsWithin links (Timeout end link protocol) = IsLink links link
 IsWithin links (Deliver end link) = IsLink links link
 IsWithin links (Lose end link place) = IsLink links link × ((1 ≤ place) × (place ≤ MOST_PLACE))
 IsWithin links (Settle count) = (1 ≤ count) × (count ≤ MOST_SETTLED)
+IsWithin links (Reboot end) = ⊤
 IsWithin links Show = ⊤
 
 -- the fields of an event's line: `E L` and more of them
@@ -48,6 +49,7 @@ event_fields (Timeout end link protocol) = codes "timeout" ∷ place_fields end 
 event_fields (Deliver end link) = codes "deliver" ∷ place_fields end link []
 event_fields (Lose end link place) = codes "lose" ∷ place_fields end link (decimal place ∷ [])
 event_fields (Settle count) = codes "settle" ∷ decimal count ∷ []
+event_fields (Reboot end) = codes "reboot" ∷ end_name end ∷ []
 event_fields Show = codes "show" ∷ []
 
 -- the line of an event, without an end
@@ -80,6 +82,14 @@ last_number least most fields = do
   nothing ← no_more first.1
   Ok number
 
+-- `E`, and no more
+unfoldable pub last_end : List (List ℕ) → Result End LineWhy
+last_end fields = do
+  first ← next_field fields
+  end ← end_in first.0
+  nothing ← no_more first.1
+  Ok end
+
 -- the rows by which a line is read
 abbrev pub rows : ℕ → List (Row Event)
 rows links =
@@ -91,6 +101,7 @@ rows links =
     ∷ row (codes "deliver") (read_as (placed links no_more) (λ p. Deliver p.0 p.1))
     ∷ row (codes "lose") (read_as (placed links (last_number 1 MOST_PLACE)) (λ p. Lose p.0 p.1 p.2))
     ∷ row (codes "settle") (read_as (last_number 1 MOST_SETTLED) Settle)
+    ∷ row (codes "reboot") (read_as last_end Reboot)
     ∷ row (codes "show") (read_as no_more (λ nothing. Show))
     ∷ []
 

@@ -2,7 +2,7 @@
 
 ghost use Rattle.std.specs.Prelude.{◌≡◌, ◌≤◌, IfOk, Some};
 ghost use Rattle.ppp_script.specs.declared.event.TheConstants.{MOST_PLACE, MOST_SETTLED};
-ghost use Rattle.ppp_script.specs.Event.{steps_in, IsWithin, event_text, place_in, placed, last_number, event_in, event_of, event_form};
+ghost use Rattle.ppp_script.specs.Event.{steps_in, IsWithin, event_text, place_in, placed, last_number, last_end, event_in, event_of, event_form};
 ghost use Rattle.ppp_script.specs.Field.{no_more, last_protocol, IsLink};
 ghost use Rattle.ppp_script.specs.Results.{Gives};
 
@@ -40,6 +40,8 @@ pub enum Event {
     Lose(End, u8, u16),
     /// `settle N`: so many steps, 1 to 1,000, each of which delivers the front frame of the first queue that isn't empty.
     Settle(u16),
+    /// `reboot E`: all queues are emptied, that end begins anew, and the other end's lines go down.
+    Reboot(End),
     /// `show`: the states are reported.
     Show,
 }
@@ -57,6 +59,7 @@ impl fmt::Display for Event {
             Event::Deliver(end, link) => write!(f, "deliver {end} {link}"),
             Event::Lose(end, link, place) => write!(f, "lose {end} {link} {place}"),
             Event::Settle(count) => write!(f, "settle {count}"),
+            Event::Reboot(end) => write!(f, "reboot {end}"),
             Event::Show => write!(f, "show"),
         }
     }
@@ -145,6 +148,17 @@ fn last_number(fields: &Fields<'_>, least: u16, most: u16) -> Result<u16, LineWh
     Ok(number)
 }
 
+/// Reads `E`, and no more.
+#[tactic(auto, unfolding(crate::specs::Event::last_end))]
+fn last_end(fields: &Fields<'_>) -> Result<End, LineWhy>
+    ensures { result ≡ last_end fields.now }
+{
+    let (first, fields) = next_field(fields)?;
+    let end = end(first)?;
+    no_more(&fields)?;
+    Ok(end)
+}
+
 /// The event of a line with this first field, and these behind it.
 #[tactic(auto, unfolding(crate::specs::Event::event_in))]
 fn read_fields(word: &[u8], fields: &Fields<'_>, links: u8) -> Result<Event, LineWhy>
@@ -174,6 +188,8 @@ fn read_fields(word: &[u8], fields: &Fields<'_>, links: u8) -> Result<Event, Lin
         Ok(Event::Lose(end, link, place))
     } else if word == b"settle".as_slice() {
         Ok(Event::Settle(last_number(fields, 1, MOST_SETTLED)?))
+    } else if word == b"reboot".as_slice() {
+        Ok(Event::Reboot(last_end(fields)?))
     } else if word == b"show".as_slice() {
         no_more(fields)?;
         Ok(Event::Show)

@@ -9,7 +9,8 @@ ghost use Rattle.ppp_script.specs.Event.{IsWithin, event_text, event_of};
 ghost use Rattle.ppp_script.specs.FeedEvent.{IsWithin as IsFeedWithin, feed_text, feed_of};
 
 /// Does nothing. Its clauses are laws: the text of an event whose numbers and octets are within their bounds reads as that
-/// event, and a line that reads as an event is its text. A line of a feed is that but for the case of its hex digits.
+/// event, and a line that reads as an event is its text. A line of a feed is that once its hex digits are put in lower
+/// case.
 pub fn read_again()
     ensures event { (links : ℕ) (event : Event) → links ≤ MOST_LINKS → IsWithin links event →
         event_of links (event_text event) ≡ Ok event }
