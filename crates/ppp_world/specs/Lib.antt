@@ -1,3 +1,4 @@
+pub mod AgreeOn
 pub mod Agreement
 pub mod Decided
 pub mod Difference
@@ -10,6 +11,7 @@ pub mod Refusal
 pub mod Report
 pub mod Run
 pub mod Settings
+pub mod ShowBlock
 pub mod Step
 pub mod TwoEnds
 pub mod World
