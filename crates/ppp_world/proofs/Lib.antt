@@ -1,3 +1,4 @@
+pub mod AgreeOnLemmas
 pub mod AgreementLemmas
 pub mod DecidedLemmas
 pub mod DifferenceLemmas

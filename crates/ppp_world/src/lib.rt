@@ -8,6 +8,7 @@
 //! [`laws`] has what holds of two ends with the shipped tables, IPV6CP's and BACP's among them, in every run.
 #![tactic(auto)]
 
+mod agree_on;
 mod agreement;
 mod frame;
 pub mod laws;
@@ -19,6 +20,7 @@ mod refusal;
 mod replayed;
 mod report;
 mod settings;
+mod show_block;
 mod step;
 mod two_ends;
 mod world;
