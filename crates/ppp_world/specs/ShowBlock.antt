@@ -27,15 +27,15 @@ granted_text a = list_text (option_and_then mine_of a) ++ codes " " ++ list_text
 unfoldable pub both_states : Option AutoState → Option AutoState → List ℕ
 both_states a b = state_text a ++ codes " " ++ state_text b
 
--- what is granted to each end and to its peer
-unfoldable pub both_granted : Option Auto → Option Auto → List ℕ
-both_granted a b = granted_text a ++ codes " " ++ granted_text b
+-- what is granted to each end and to its peer, and whether they agree
+unfoldable pub terms_text : Option Auto → Option Auto → Option Bool → List ℕ
+terms_text a b agree = granted_text a ++ codes " " ++ granted_text b ++ codes " agree " ++ agree_text agree
 
 -- the line of a protocol on a link
-unfoldable pub line : ℕ → Proto → Option Auto → Option Auto → Option Bool → List ℕ
+abbrev pub line : ℕ → Proto → Option Auto → Option Auto → Option Bool → List ℕ
 line m p a b agree =
     decimal m ++ codes " " ++ proto_name p ++ codes " " ++ both_states (option_map (λ a. a.state) a) (option_map (λ b. b.state) b)
-    ++ codes " " ++ both_granted a b ++ codes " agree " ++ agree_text agree ++ codes "\n"
+    ++ codes " " ++ terms_text a b agree ++ codes "\n"
 
 -- nothing where neither end has it
 abbrev pub line_if : ℕ → Proto → Option Auto → Option Auto → Option Bool → List ℕ

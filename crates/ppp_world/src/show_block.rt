@@ -6,7 +6,7 @@ ghost use Rattle.ppp_link.specs.Automata.{auto_at};
 ghost use Rattle.ppp_station.specs.Station.{IsOfLink};
 ghost use Rattle.ppp_world.specs.AgreeOn.{opened_on};
 ghost use Rattle.ppp_world.specs.Report.{agree_text, list_text};
-ghost use Rattle.ppp_world.specs.ShowBlock.{both_granted, both_states, granted_text, line, line_on, link_lines, show_block, state_text};
+ghost use Rattle.ppp_world.specs.ShowBlock.{both_states, granted_text, line, line_on, link_lines, show_block, state_text, terms_text};
 
 use crate::agree_on::{agree, link_of};
 use ppp_auto::AutoState;
@@ -108,7 +108,6 @@ impl fmt::Display for Line<'_> {
     ghost output = { λ l. Some (line l.number l.proto
         (auto_at l.a.now.automata l.proto) (auto_at l.b.now.automata l.proto) l.agree) };
 
-    #[tactic(auto, unfolding(crate::specs::ShowBlock::line))]
     fn fmt<W: fmt::Write>(&self, f: &mut fmt::Formatter<W>) -> fmt::Result {
         let number = self.number;
         let proto = self.proto;
@@ -116,13 +115,13 @@ impl fmt::Display for Line<'_> {
             a: self.a.state(proto),
             b: self.b.state(proto),
         };
-        let granted = BothGranted {
+        let terms = Terms {
             proto,
             a: self.a,
             b: self.b,
+            agree: self.agree,
         };
-        let agree = agree_text(self.agree);
-        write!(f, "{number} {proto} {states} {granted} agree {agree}\n")
+        write!(f, "{number} {proto} {states} {terms}\n")
     }
 }
 
@@ -161,18 +160,20 @@ impl fmt::Display for OneState {
     }
 }
 
-/// What is granted to each end and to its peer.
+/// What is granted to each end and to its peer, and whether they agree.
 #[derive(Clone, Copy)]
-struct BothGranted<'a> {
+struct Terms<'a> {
     proto: Proto,
     a: &'a Link,
     b: &'a Link,
+    agree: Option<bool>,
 }
 
-impl fmt::Display for BothGranted<'_> {
-    ghost output = { λ g. Some (both_granted (auto_at g.a.now.automata g.proto) (auto_at g.b.now.automata g.proto)) };
+impl fmt::Display for Terms<'_> {
+    ghost output = { λ t. Some (terms_text (auto_at t.a.now.automata t.proto)
+        (auto_at t.b.now.automata t.proto) t.agree) };
 
-    #[tactic(auto, unfolding(crate::specs::ShowBlock::both_granted))]
+    #[tactic(auto, unfolding(crate::specs::ShowBlock::terms_text))]
     fn fmt<W: fmt::Write>(&self, f: &mut fmt::Formatter<W>) -> fmt::Result {
         let a = Granted {
             proto: self.proto,
@@ -182,7 +183,8 @@ impl fmt::Display for BothGranted<'_> {
             proto: self.proto,
             link: self.b,
         };
-        write!(f, "{a} {b}")
+        let agree = agree_text(self.agree);
+        write!(f, "{a} {b} agree {agree}")
     }
 }
 
