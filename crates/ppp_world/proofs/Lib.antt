@@ -9,6 +9,7 @@ pub mod QueueLemmas
 pub mod ReplayLemmas
 pub mod RunLemmas
 pub mod SettingsLemmas
+pub mod ShowBlockLemmas
 pub mod StepLemmas
 pub mod TwoEndsLemmas
 pub mod WorldLemmas
