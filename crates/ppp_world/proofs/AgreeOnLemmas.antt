@@ -14,11 +14,12 @@ use Rattle.ppp_auto.specs.OptionTable.{Table}
 use Rattle.ppp_auto.specs.Reply.{same_option, same_list}
 use Rattle.ppp_auto.specs.declared.auto_state.AutoState.{AutoState}
 use Rattle.ppp_auto.specs.declared.auto_state.AutoState.TheVariants.{Opened}
-use Rattle.ppp_options.specs.DiffersLaw.{differs-both_ways}
+use Rattle.ppp_options.specs.Differs.{Differs}
+use Rattle.ppp_options.specs.DiffersLaw.{allowed-differs, differs-both_ways}
 use Rattle.ppp_options.specs.Fits.{FitsAny}
 use Rattle.ppp_options.specs.Rule.{Rule}
 use Rattle.ppp_options.specs.RuleLaw.{rules_lawful}
-use Rattle.ppp_options.specs.Rules.{Allows, IsUnknown, Sendable}
+use Rattle.ppp_options.specs.Rules.{Allows, IsUnknown, Sendable, table_by}
 use Rattle.ppp_lcp.specs.LcpLaw.{lcp_fits, lcp_is_table, table_ranged}
 use Rattle.ppp_lcp.specs.LcpSettings.{settings_seen}
 use Rattle.ppp_lcp.specs.LcpTable.{FitsMagic, lcp_rules, magic_of}
@@ -36,20 +37,24 @@ use Rattle.ppp_osimpls.specs.declared.mpls_table.MplsTable.{MplsTable}
 use Rattle.ppp_bacp.specs.BacpLaw.{bacp_fits, bacp_is_table}
 use Rattle.ppp_bacp.specs.BacpTable.{FitsFavored, bacp_rules}
 use Rattle.ppp_bacp.specs.declared.bacp_table.BacpTable.{BacpTable}
+use Rattle.ppp_duet.specs.Agreement.{Agreement}
 use Rattle.ppp_duet.specs.Duet.{Duet, End, Marked, Setup}
 use Rattle.ppp_duet.specs.Reached.{Reached}
-use Rattle.ppp_duet.specs.Terms.{Terms}
-use Rattle.ppp_duet.proofs.ReachedLemmas.{agreement_at}
-use Rattle.ppp_link.specs.Automata.{auto_at, automata_begun, begun_if}
+use Rattle.ppp_duet.specs.Reopening.{Reopening}
+use Rattle.ppp_duet.specs.Terms.{AreLawful, Terms}
+use Rattle.ppp_duet.proofs.ReachedLemmas.{agreement_at, opened_run}
+use Rattle.ppp_duet.proofs.ReopeningLemmas.{reopening}
+use Rattle.ppp_duet.proofs.TermsLemmas.{used}
+use Rattle.ppp_link.specs.Automata.{auto_at}
 use Rattle.ppp_link.specs.Link.{Link}
 use Rattle.ppp_link.specs.LinkTables.{LinkTables, bacp_table, ip_table, ipv6_table, mpls_table, osi_table, table_if, table_of}
 use Rattle.ppp_party.specs.Frame.{only}
-use Rattle.ppp_party.specs.Held.{IsHeld, IsLone, KeptOn}
+use Rattle.ppp_party.specs.Held.{IsHeld, IsLone}
 use Rattle.ppp_party.specs.Kept.{Kept, duet_of}
 use Rattle.ppp_party.specs.Ledger.{Ledger, end_of, ledger_at}
 use Rattle.ppp_party.specs.Party.{Ends, Party, turned}
-use Rattle.ppp_party.specs.Seat.{IsSpoken, Seat, SeatAt}
-use Rattle.ppp_party.specs.Spans.{NarrowOn, ledger_on, queue_on}
+use Rattle.ppp_party.specs.Seat.{Seat, SeatAt}
+use Rattle.ppp_party.specs.Spans.{ledger_on, queue_on}
 use Rattle.ppp_world.specs.AgreeOn.{AgreeBy, AgreeOn, AgreesOn, AreOpenedOn, Fits, agree_of, agree_on, auto_on, duet_on, duet_with, end_on, fits, is_opened_if, link_on, opened_on, passes, rules_if, rules_of, rules_on, state_on}
 use Rattle.ppp_world.specs.ShowBlock.{Told, line_on, link_lines, lines_of, show_block, told_block}
 
@@ -67,57 +72,77 @@ same_list-if one other h = rw h (same_list-self other)
 
 -- ---- the tables are lawful
 
-ip-lawful : (o : Option IpcpTable) (a : Auto) → begun_if ip_table o ≡ Some a → let rs = rules_if (λ ip. ipcp_rules ip.own ip.give) o in
-    Lawful (table_if ip_table o) (Sendable rs) (IsUnknown rs) (Allows rs) FitsAny
-ip-lawful (Some t) a there = rules_lawful false (ipcp_rules t.own t.give) (λ mine. 0) FitsAny (ipcp_is_table t.own t.give) (λ own theirs sends allowed. tt) (λ one other fit. tt)
-ip-lawful None a there = absurd (cc)
+abbrev LawfulBy : Table → List Rule → (List ConfigOption → List ConfigOption → Type 0) → Type 0
+LawfulBy table rs compat = Lawful table (Sendable rs) (IsUnknown rs) (Allows rs) compat
 
-ipv6-lawful : (o : Option Ipv6Table) (a : Auto) → begun_if ipv6_table o ≡ Some a → let rs = rules_if (λ ipv6. ipv6_rules ipv6.own ipv6.ask) o in
-    Lawful (table_if ipv6_table o) (Sendable rs) (IsUnknown rs) (Allows rs) FitsIdentifier
-ipv6-lawful (Some t) a there = rules_lawful false (ipv6_rules t.own t.ask) (λ mine. 0) FitsIdentifier (ipv6_is_table t.own t.ask) (ipv6_fits t.own t.ask) (differs-both_ways 1 8)
-ipv6-lawful None a there = absurd (cc)
+-- of one without a row
+any-lawful : LawfulBy (table_by false [] (λ mine. 0)) [] FitsAny
+any-lawful = rules_lawful false [] (λ mine. 0) FitsAny mpls_is_table (λ own theirs sends allowed. tt) (λ one other fit. tt)
 
-osi-lawful : (o : Option OsiTable) (a : Auto) → begun_if osi_table o ≡ Some a → let rs = rules_if (λ osi. osi_rules osi.align) o in
-    Lawful (table_if osi_table o) (Sendable rs) (IsUnknown rs) (Allows rs) FitsAny
-osi-lawful (Some t) a there = rules_lawful false (osi_rules t.align) (λ mine. 0) FitsAny (osi_is_table t.align t.is_setting) (λ own theirs sends allowed. tt) (λ one other fit. tt)
-osi-lawful None a there = absurd (cc)
+differs-lawful : (kind size : ℕ) → LawfulBy (table_by false [] (λ mine. 0)) [] (Differs kind size)
+differs-lawful kind size =
+    rules_lawful false [] (λ mine. 0) (Differs kind size) mpls_is_table (λ own theirs sends. allowed-differs [] kind size (record { takes = λ own body h. cc }) own theirs) (differs-both_ways kind size)
 
-mpls-lawful : (o : Option MplsTable) (a : Auto) → begun_if mpls_table o ≡ Some a → let rs = rules_if (λ mpls. mpls_rules) o in
-    Lawful (table_if mpls_table o) (Sendable rs) (IsUnknown rs) (Allows rs) FitsAny
-mpls-lawful (Some t) a there = rules_lawful false mpls_rules (λ mine. 0) FitsAny mpls_is_table (λ own theirs sends allowed. tt) (λ one other fit. tt)
-mpls-lawful None a there = absurd (cc)
+ip-lawful : (o : Option IpcpTable) → LawfulBy (table_if ip_table o) (rules_if (λ ip. ipcp_rules ip.own ip.give) o) FitsAny
+ip-lawful (Some t) = rules_lawful false (ipcp_rules t.own t.give) (λ mine. 0) FitsAny (ipcp_is_table t.own t.give) (λ own theirs sends allowed. tt) (λ one other fit. tt)
+ip-lawful None = any-lawful
 
-bacp-lawful : (o : Option BacpTable) (a : Auto) → begun_if bacp_table o ≡ Some a → let rs = rules_if (λ bacp. bacp_rules bacp.favored) o in
-    Lawful (table_if bacp_table o) (Sendable rs) (IsUnknown rs) (Allows rs) FitsFavored
-bacp-lawful (Some t) a there = rules_lawful false (bacp_rules t.favored) (λ mine. 0) FitsFavored (bacp_is_table t.favored t.is_favored) (bacp_fits t.favored) (differs-both_ways 1 4)
-bacp-lawful None a there = absurd (cc)
+ipv6-lawful : (o : Option Ipv6Table) → LawfulBy (table_if ipv6_table o) (rules_if (λ ipv6. ipv6_rules ipv6.own ipv6.ask) o) FitsIdentifier
+ipv6-lawful (Some t) = rules_lawful false (ipv6_rules t.own t.ask) (λ mine. 0) FitsIdentifier (ipv6_is_table t.own t.ask) (ipv6_fits t.own t.ask) (differs-both_ways 1 8)
+ipv6-lawful None = differs-lawful 1 8
 
--- each configured one
-table-lawful : (p : Proto) (t : LinkTables) (a : Auto) → auto_at (automata_begun t) p ≡ Some a →
-    Lawful (table_of t p) (Sendable (rules_of t p)) (IsUnknown (rules_of t p)) (Allows (rules_of t p)) (Fits p)
-table-lawful Lcp t a there =
+osi-lawful : (o : Option OsiTable) → LawfulBy (table_if osi_table o) (rules_if (λ osi. osi_rules osi.align) o) FitsAny
+osi-lawful (Some t) = rules_lawful false (osi_rules t.align) (λ mine. 0) FitsAny (osi_is_table t.align t.is_setting) (λ own theirs sends allowed. tt) (λ one other fit. tt)
+osi-lawful None = any-lawful
+
+mpls-lawful : (o : Option MplsTable) → LawfulBy (table_if mpls_table o) (rules_if (λ mpls. mpls_rules) o) FitsAny
+mpls-lawful (Some t) = any-lawful
+mpls-lawful None = any-lawful
+
+bacp-lawful : (o : Option BacpTable) → LawfulBy (table_if bacp_table o) (rules_if (λ bacp. bacp_rules bacp.favored) o) FitsFavored
+bacp-lawful (Some t) = rules_lawful false (bacp_rules t.favored) (λ mine. 0) FitsFavored (bacp_is_table t.favored t.is_favored) (bacp_fits t.favored) (differs-both_ways 1 4)
+bacp-lawful None = differs-lawful 1 4
+
+-- each one
+table-lawful : (p : Proto) (t : LinkTables) → LawfulBy (table_of t p) (rules_of t p) (Fits p)
+table-lawful Lcp t =
     let s = settings_seen t.lcp in rules_lawful true (lcp_rules s) magic_of FitsMagic (lcp_is_table s (table_ranged t.lcp)) (lcp_fits s) (differs-both_ways 5 4)
-table-lawful Ip t a there = ip-lawful t.ip a there
-table-lawful Ipv6 t a there = ipv6-lawful t.ipv6 a there
-table-lawful Osi t a there = osi-lawful t.osi a there
-table-lawful Mpls t a there = mpls-lawful t.mpls a there
-table-lawful Bacp t a there = bacp-lawful t.bacp a there
+table-lawful Ip t = ip-lawful t.ip
+table-lawful Ipv6 t = ipv6-lawful t.ipv6
+table-lawful Osi t = osi-lawful t.osi
+table-lawful Mpls t = mpls-lawful t.mpls
+table-lawful Bacp t = bacp-lawful t.bacp
 
-spoken-lawful : (sa : Setup) (p : Proto) (t : LinkTables) → IsSpoken sa p t →
-    Lawful sa.table (Sendable (rules_of t p)) (IsUnknown (rules_of t p)) (Allows (rules_of t p)) (Fits p)
-spoken-lawful sa p t spoken =
-    subst (λ table. Lawful table (Sendable (rules_of t p)) (IsUnknown (rules_of t p)) (Allows (rules_of t p)) (Fits p)) (sym spoken.table) (table-lawful p t spoken.auto spoken.there)
-
--- ---- the law on two ends
+-- ---- the laws on two ends
 
 terms_by : Setup → List Rule → Terms
 terms_by sa rs = record { setup = sa; keeps = Sendable rs; unknown = IsUnknown rs; allows = Allows rs }
 
-spoken-agree : (sa sb : Setup) (p : Proto) (s t : LinkTables) (d : Duet) → IsSpoken sa p s → IsSpoken sb p t → Reached sa sb d → d.a.auto.state ≡ Opened → d.b.auto.state ≡ Opened →
-    AgreeBy p (rules_of s p) (rules_of t p) d
+setup-lawful : (p : Proto) (t : LinkTables) (sa : Setup) → sa.table ≡ table_of t p → AreLawful (Fits p) (terms_by sa (rules_of t p))
 unfolding terms_by
-spoken-agree sa sb p s t d own other reached opened_a opened_b =
-    agreement_at (Fits p) (terms_by sa (rules_of s p)) (terms_by sb (rules_of t p)) (spoken-lawful sa p s own) (spoken-lawful sb p t other) d reached opened_a opened_b
+setup-lawful p t sa same = subst (λ table. LawfulBy table (rules_of t p) (Fits p)) (sym same) (table-lawful p t)
+
+-- two Opened ends agree, wherever events led
+tables-agree : (p : Proto) (s t : LinkTables) (sa sb : Setup) (d : Duet) → sa.table ≡ table_of s p → sb.table ≡ table_of t p → Reached sa sb d →
+    d.a.auto.state ≡ Opened → d.b.auto.state ≡ Opened → AgreeBy p (rules_of s p) (rules_of t p) d
+unfolding terms_by
+tables-agree p s t sa sb d own other reached opened_a opened_b =
+    agreement_at (Fits p) (terms_by sa (rules_of s p)) (terms_by sb (rules_of t p)) (setup-lawful p s sa own) (setup-lawful p t sb other) d reached opened_a opened_b
+
+abbrev setup_at : LinkTables → Proto → ℕ → Setup
+setup_at t p first = record { table = table_of t p; first = first }
+
+-- and so in every narrow run
+pub tables-agreement : (p : Proto) (s t : LinkTables) → Agreement (λ k. table_of k p) (λ k. Sendable (rules_of k p)) (λ k. Allows (rules_of k p)) (Fits p) s t
+tables-agreement p s t first_a first_b =
+    opened_run (setup_at s p first_a) (setup_at t p first_b) (AgreeBy p (rules_of s p) (rules_of t p)) (λ d. tables-agree p s t (setup_at s p first_a) (setup_at t p first_b) d refl refl)
+
+pub tables-reopening : (p : Proto) (s t : LinkTables) → Reopening (table_of s p) (table_of t p)
+unfolding terms_by
+tables-reopening p s t first_a first_b =
+    let sa = setup_at s p first_a in
+    let sb = setup_at t p first_b in
+    reopening (Fits p) (terms_by sa (rules_of s p)) (terms_by sb (rules_of t p)) (used (Fits p) (terms_by sa (rules_of s p)) (setup-lawful p s sa refl)) (used (Fits p) (terms_by sb (rules_of t p)) (setup-lawful p t sb refl))
 
 -- ---- what an end has on a link
 
@@ -192,7 +217,7 @@ kept-agrees sa sb p m e low k =
     let there = duet-there sa sb p m e k own other in
     let rs = rules-there m p e.own.links k.own.link own.link in
     let ts = rules-there m p e.other.links k.other.link other.link in
-    let agree = spoken-agree sa sb p k.own.link.tables k.other.link.tables d k.own_seated.end.spoken k.other_seated.end.spoken k.reached in
+    let agree = tables-agree p k.own.link.tables k.other.link.tables sa sb d k.own_seated.end.spoken.table k.other_seated.end.spoken.table k.reached in
     record {
       agree = λ opened. record {
           duet = d;
