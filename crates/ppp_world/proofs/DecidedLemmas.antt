@@ -2,6 +2,7 @@
 use Rattle.std.proofs.Common.{◌≡◌, ℕ, true, List, refl}
 use Rattle.ppp_packet.specs.ConfigOption.{ConfigOption}
 use Rattle.ppp_packet.specs.Options.{find_kind}
+use Rattle.ppp_auto.specs.OptionTable.{Table}
 use Rattle.ppp_auto.specs.Packet.{Packet, Request, Ack, Nak, Reject, Other}
 use Rattle.ppp_duet.specs.Duet.{Duet, Event, Setup, run, start}
 use Rattle.ppp_duet.specs.Reached.{Reached}
@@ -17,10 +18,14 @@ use Rattle.ppp_lcp.specs.declared.lcp_kind.LcpKind.{LcpKind}
 use Rattle.ppp_lcp.specs.declared.lcp_kind.LcpKind.TheVariants.{Magic}
 use Rattle.ppp_options.specs.Free.{IsFree, LeavesAlone}
 use Rattle.ppp_options.specs.FreeLaw.{reply-asks-nothing}
+use Rattle.ppp_options.specs.Rules.{table_by}
 use Rattle.ppp_options.specs.Steady.{AsksSteadily}
 use Rattle.ppp_options.specs.SteadyLaw.{first-steady, nak-steady, reject-steady, answer-steady, ack-steady}
 use Rattle.ppp_world.specs.Decided.{AreDecided}
-use Rattle.ppp_world.specs.Settings.{lcp_table}
+
+-- LCP's table, of what it is set to
+abbrev table_set : LcpSettings → Table
+table_set s = table_by true (lcp_rules s) magic_of
 
 -- an end with settings s whose peer has t
 abbrev speech : LcpKind → LcpSettings → LcpSettings → Speech
@@ -40,7 +45,7 @@ said_by kind s t (Nak id options) asks leaves acks = leaves
 said_by kind s t (Reject id options) asks leaves acks = leaves
 said_by kind s t (Other code id octets) asks leaves acks = tt
 
-says : (kind : LcpKind) → (kind ≡ Magic → ⊥) → (s t : LcpSettings) → IsRanged s → IsRanged t → Says (lcp_table s) (speech kind s t) (speech kind t s)
+says : (kind : LcpKind) → (kind ≡ Magic → ⊥) → (s t : LcpSettings) → IsRanged s → IsRanged t → Says (table_set s) (speech kind s t) (speech kind t s)
 says kind other s t ranged ranged_t =
     let k = kind_number kind in
     let rs = lcp_rules s in
@@ -54,13 +59,13 @@ says kind other s t ranged ranged_t =
       after_nak = nak-steady rs ts k mine theirs table (lcp_row s kind) (lcp_row t kind) asked;
       after_reject = reject-steady rs ts k mine theirs table (lcp_row s kind) (lcp_row t kind) asked;
       answers = λ own list naks word id _ asks.
-          said_by kind s t _ (reply-asks-nothing (lcp_table s) own naks word id list)
+          said_by kind s t _ (reply-asks-nothing (table_set s) own naks word id list)
           (answer-steady ts rs k theirs mine (lcp_is_table t ranged_t) (lcp_row t kind) (lcp_row s kind) (lcp_steady t s kind other) true magic_of own list naks word id refl asks)
           (ack-steady ts rs k theirs mine (lcp_is_table t ranged_t) (lcp_row t kind) (lcp_row s kind) (lcp_steady t s kind other) true magic_of own list naks word id asks);
     }
 
 abbrev pub lcp_setup : LcpSettings → ℕ → Setup
-lcp_setup s first = record { table = lcp_table s; first = first }
+lcp_setup s first = record { table = table_set s; first = first }
 
 decided : (kind : LcpKind) (s t : LcpSettings) (d : Duet) → Said (speech kind s t) (speech kind t s) d → AreDecided kind s t d
 decided kind s t d h = record {

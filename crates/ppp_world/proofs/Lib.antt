@@ -1,13 +1,9 @@
-pub mod AgreementLemmas
+pub mod AgreeOnLemmas
 pub mod DecidedLemmas
 pub mod DifferenceLemmas
-pub mod FrameLemmas
-pub mod LedgerLemmas
-pub mod PartyLemmas
-pub mod QueueLemmas
 pub mod ReplayLemmas
 pub mod RunLemmas
-pub mod SettingsLemmas
-pub mod StepLemmas
-pub mod TwoEndsLemmas
+pub mod ShowBlockLemmas
+pub mod SoundLemmas
+pub mod WidthLemmas
 pub mod WorldLemmas

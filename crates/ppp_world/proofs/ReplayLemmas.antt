@@ -1,20 +1,21 @@
 -- The replay of a script, event by event.
 use Rattle.std.proofs.Common.{◌≡◌, ℕ, ◌+◌, ◌≤◌, List, [], ◌∷◌, refl, sym, ◌∙◌, ap, arith}
 use Rattle.std.specs.Prelude.{Option, Some, None, Result, Ok, Err, IfOk, IsSome}
+use Rattle.std.proofs.lemmas.List.Elements.{All-nil}
 use Rattle.std.proofs.lemmas.List.Sums.{sum_by-cons}
 use Rattle.ppp_link.specs.Link.{Link}
 use Rattle.ppp_script.specs.Event.{steps_in, steps_in_all}
 use Rattle.ppp_script.specs.declared.script.TheConstants.{MOST_STEPS}
 use Rattle.ppp_script.specs.declared.event.Event.{Event}
 use Rattle.ppp_world.specs.Refusal.{refusal_in}
-use Rattle.ppp_world.specs.Run.{run_from, run_of, place_begun, report, refusal, before_refusal}
+use Rattle.ppp_world.specs.Run.{Moment, run_from, run_of, place_after, place_begun, moments_of, report, refusal, before_refusal, AgreeEverywhere, AgreeThroughout}
 use Rattle.ppp_world.specs.World.{World, world_begun, world_after, answer_of, place_of, UnlessMemory}
 use Rattle.ppp_world.specs.declared.outstanding.Outstanding.{Outstanding as Outstanding'}
 use Rattle.ppp_world.specs.declared.refusal.Refusal.{Refusal}
 use Rattle.ppp_world.specs.declared.world_fault.WorldFault.{WorldFault}
 use Rattle.ppp_world.specs.declared.world_fault.WorldFault.TheVariants.{Memory, Outstanding}
-use Rattle.ppp_world.proofs.RunLemmas.{linked_run}
-use Rattle.ppp_world.proofs.WorldLemmas.{world_after_all, run_is, becomes, Becomes, halt_of, halted_moments, IsNextAfter, before_refusal-none}
+use Rattle.ppp_world.proofs.RunLemmas.{linked_event, linked_run}
+use Rattle.ppp_world.proofs.WorldLemmas.{SoFar, agreed-moments, place_all, world_after_all, run_is, becomes, Becomes, halt_of, halted_moments, IsNextAfter, before_refusal-none}
 
 follows : (own other : List Link) (events : List Event) → Becomes (world_begun own other) (run_of own other events) (world_after_all (world_begun own other) events)
 follows own other events =
@@ -28,9 +29,11 @@ pub record ReplaysOn (own other : List Link) (all : List Event) (now : World) (r
   pub same : world_after_all (world_begun own other) all ≡ world_after_all now rest
   pub going : now.halt ≡ None
   pub room : now.steps + steps_in_all rest ≤ MOST_STEPS
+  -- that two Opened ends agree in what is left gives that they do in all
+  pub agreed : AgreeThroughout (before_refusal (run_from (place_of now) rest)) → AgreeThroughout (before_refusal (run_of own other all))
 
 pub replays_first : (own other : List Link) (all : List Event) → steps_in_all all ≤ MOST_STEPS → ReplaysOn own other all (world_begun own other) all
-replays_first own other all few = record { same = refl; going = refl; room = omega arith }
+replays_first own other all few = record { same = refl; going = refl; room = omega arith; agreed = λ all. all }
 
 going_answer : (o : Option WorldFault) → Ok tt ≡ answer_of o → o ≡ None
 going_answer None is = refl
@@ -48,17 +51,42 @@ refused_if (Some (Outstanding other)) fault is p = p
 pub replays_room : (own other : List Link) (all : List Event) (now : World) (rest more : List Event) (event : Event) → rest ≡ event ∷ more → ReplaysOn own other all now rest → now.steps + steps_in event ≤ MOST_STEPS
 replays_room own other all now rest more event is far = let room = rw is at far.room in omega (arith, room, sum_by-cons steps_in event more)
 
+-- what an event gives, given what it was given before
+agreed_so_far : (own other : List Link) (all : List Event) (now next : World) (rest more : List Event) (event : Event) → rest ≡ event ∷ more →
+    UnlessMemory next.halt (next ≡ world_after now event) → (now.halt ≡ None → UnlessMemory next.halt (AgreeThroughout (before_refusal (moments_of event (place_of now))))) →
+    ReplaysOn own other all now rest → SoFar next.halt (AgreeThroughout (before_refusal (run_from (place_of next) more))) (AgreeThroughout (before_refusal (run_of own other all)))
+agreed_so_far own other all now next rest more event is done agreed far =
+    at_next next.halt refl done
+    (agreed-moments now next ms (run_from (place_after (place_of now) ms) more) (AgreeThroughout (before_refusal (run_of own other all))) far.going (linked_event event (place_of now)) done (agreed far.going)
+    (rw is at far.agreed))
+  where
+    ms : List Moment
+    ms = moments_of event (place_of now)
+
+    at_next : (o : Option WorldFault) → next.halt ≡ o → UnlessMemory o (next ≡ world_after now event) →
+        SoFar o (AgreeThroughout (before_refusal (run_from (place_after (place_of now) ms) more))) (AgreeThroughout (before_refusal (run_of own other all))) →
+        SoFar o (AgreeThroughout (before_refusal (run_from (place_of next) more))) (AgreeThroughout (before_refusal (run_of own other all)))
+    at_next None on did far =
+        let at : place_of next ≡ place_after (place_of now) ms = ap place_of did ∙ place_all now ms (sym (ap (λ (w : World). w.halt) did) ∙ on) in rw at far
+    at_next (Some Memory) on did far = tt
+    at_next (Some (Outstanding why)) on did far = far
+
 pub replays_next : (own other : List Link) (all : List Event) (now next : World) (rest more : List Event) (event : Event) (answer : Result (Unit {0}) WorldFault) → rest ≡ event ∷ more →
     answer ≡ answer_of next.halt → answer ≡ Ok tt → UnlessMemory next.halt (next ≡ world_after now event) → next.steps ≤ now.steps + steps_in event →
     ReplaysOn own other all now rest → ReplaysOn own other all next more
-replays_next own other all now next rest more event answer is answers ok done steps far =
+replays_next own other all now next rest more event answer is answers ok done steps agreed far =
     let going = going_answer next.halt (sym ok ∙ answers) in
     let room = rw is at far.room in
     record {
       same = (rw is at far.same) ∙ ap (λ w. world_after_all w more) (sym (done_if next.halt going done));
       going = going;
       room = omega (arith, room, steps, sum_by-cons steps_in event more);
+      agreed = on next.halt going (agreed_so_far own other all now next rest more event is done agreed far);
     }
+  where
+    on : (o : Option WorldFault) → o ≡ None → {rest whole : Type 0} → SoFar o rest whole → rest → whole
+    on None is all = all
+    on (Some fault) is all = absurd (cc)
 
 -- at the end, no step was refused
 no_refusal : (o : Option Refusal) → None ≡ halt_of o → o ≡ None
@@ -67,10 +95,11 @@ no_refusal (Some refused) is = absurd (cc)
 
 pub replays_all : (own other : List Link) (all : List Event) (now : World) → ReplaysOn own other all now [] →
     (now.report ≡ report (before_refusal (run_of own other all))) × (None ≡ refusal (run_of own other all)) × (now.report ≡ report (run_of own other all))
+    × AgreeThroughout (before_refusal (run_of own other all))
 replays_all own other all now far =
     let whole = rw far.same at (follows own other all) in
     let none = no_refusal (refusal (run_of own other all)) (sym far.going ∙ whole.halt) in
-    (whole.report, sym none, whole.report ∙ ap report (before_refusal-none (run_of own other all) none))
+    (whole.report, sym none, whole.report ∙ ap report (before_refusal-none (run_of own other all) none), far.agreed (All-nil (λ (x : Moment). AgreeEverywhere x.after)))
 
 -- at a refusal
 halt_answered : (o : Option WorldFault) (fault : WorldFault) → Err fault ≡ answer_of o → o ≡ Some fault
@@ -95,12 +124,15 @@ replays_refused own other all now next rest more event fault is why done far =
 
 -- however the world refused, what the replay comes to is right, if it comes to something
 pub replays_stopped : (own other : List Link) (all : List Event) (now next : World) (rest more : List Event) (event : Event) (answer : Result (Unit {0}) WorldFault) (why : WorldFault) (refused : Option Refusal) → rest ≡ event ∷ more →
-    answer ≡ answer_of next.halt → answer ≡ Err why → UnlessMemory next.halt (next ≡ world_after now event) → ReplaysOn own other all now rest → refused ≡ refusal_in (next.steps + 1) why → IsSome refused →
-    (next.report ≡ report (before_refusal (run_of own other all))) × (refused ≡ refusal (run_of own other all))
-replays_stopped own other all now next rest more event answer Memory refused is answers err done far refused_is some = absurd (cc)
-replays_stopped own other all now next rest more event answer (Outstanding fault) refused is answers err done far refused_is some =
-    let both = replays_refused own other all now next rest more event fault is (halt_answered next.halt _ (sym err ∙ answers)) done far in
-    (both.0, refused_is ∙ both.1)
+    answer ≡ answer_of next.halt → answer ≡ Err why → UnlessMemory next.halt (next ≡ world_after now event) →
+    (now.halt ≡ None → UnlessMemory next.halt (AgreeThroughout (before_refusal (moments_of event (place_of now))))) →
+    ReplaysOn own other all now rest → refused ≡ refusal_in (next.steps + 1) why → IsSome refused →
+    (next.report ≡ report (before_refusal (run_of own other all))) × (refused ≡ refusal (run_of own other all)) × AgreeThroughout (before_refusal (run_of own other all))
+replays_stopped own other all now next rest more event answer Memory refused is answers err done agreed far refused_is some = absurd (cc)
+replays_stopped own other all now next rest more event answer (Outstanding fault) refused is answers err done agreed far refused_is some =
+    let halted = halt_answered next.halt _ (sym err ∙ answers) in
+    let both = replays_refused own other all now next rest more event fault is halted done far in
+    (both.0, refused_is ∙ both.1, rw halted at (agreed_so_far own other all now next rest more event is done agreed far))
 
 pub none_is : {X : Type 0} (o : Option X) → IsSome o → o ≡ None → ⊥
 none_is None some none = absurd (cc)

@@ -1,14 +1,11 @@
--- The moments of a run go on one from the other, and in each state of it up to the first refusal two Opened ends agree.
+-- The moments of a run go on one from the other.
 use Rattle.std.proofs.Common.{◌≡◌, ℕ, zero, suc, ◌+◌, List, [], ◌∷◌, ◌++◌, length, refl, sym, ap, subst, arith}
 use Rattle.std.specs.Prelude.{Option, Some, None, ⊤}
-use Rattle.std.proofs.lemmas.List.Elements.{All-nil, All-cons}
 use Rattle.ppp_script.specs.Event.{steps_in}
 use Rattle.ppp_script.specs.declared.event.Event.{Event}
 use Rattle.ppp_script.specs.declared.event.Event.TheVariants.{Up, Down, AdminOpen, AdminClose, Timeout, Deliver, Lose, Settle, Reboot, Show}
-use Rattle.ppp_world.specs.Outstanding.{outstanding_in}
-use Rattle.ppp_world.specs.Run.{Moment, Place, moment_at, after_moment, deliveries, moments_by, moments_of, place_after, run_from, kept_with, AgreeEverywhere, AgreeThroughout}
+use Rattle.ppp_world.specs.Run.{Moment, Place, moment_at, after_moment, deliveries, moments_by, moments_of, place_after, run_from}
 use Rattle.ppp_world.specs.Step.{settling, step_of, next_delivery}
-use Rattle.ppp_world.specs.declared.outstanding.Outstanding.{Outstanding}
 
 -- each moment of a run goes on from the one before
 abbrev pub Linked : Place → List Moment → Type 0
@@ -27,7 +24,7 @@ linked_by : (o : Option ℕ) (event : Event) (p : Place) → Linked p (moments_b
 linked_by (Some count) event p = linked_deliveries count p
 linked_by None event p = (refl, tt)
 
-linked_event : (event : Event) (p : Place) → Linked p (moments_of event p)
+pub linked_event : (event : Event) (p : Place) → Linked p (moments_of event p)
 linked_event event p = linked_by (settling event) event p
 
 pub linked_run : (p : Place) (events : List Event) → Linked p (run_from p events)
@@ -41,7 +38,3 @@ steps-settling event count is = grind arith
 
 pub steps-other : (event : Event) → settling event ≡ None → steps_in event ≡ 1
 steps-other event is = grind arith
-
-pub kept_agree : (m : Moment) (ms : List Moment) (fault : Option Outstanding) → AgreeEverywhere m.after → (fault ≡ None → AgreeThroughout ms) → AgreeThroughout (kept_with m fault ms)
-kept_agree m ms (Some fault) here later = All-nil (λ (x : Moment). AgreeEverywhere x.after)
-kept_agree m ms None here later = All-cons (λ (x : Moment). AgreeEverywhere x.after) m ms here (later refl)

@@ -1,14 +1,20 @@
 -- What a world keeps, each step keeps that isn't refused; and where a step can make a span too wide.
 use Rattle.std.proofs.Common.{inl, inr, ◌≡◌, ℕ, zero, suc, ◌+◌, ◌-◌, ◌*◌, ◌≤◌, ◌<◌, List, [], ◌∷◌, length, refl, sym, ap, ◌∙◌, subst, arith}
-use Rattle.std.specs.Prelude.{◌≢◌, Option, Some, None, slice_get}
+use Rattle.std.specs.Prelude.{◌≢◌, Option, Some, None, map, slice_get}
+use Rattle.std.specs.List.{AllByRecursion}
+use Rattle.std.proofs.lemmas.List.{length-map}
+use Rattle.std.proofs.lemmas.Option.{slice_get_cases}
+use Rattle.ppp_conf.specs.Config.{Settings as Config}
+use Rattle.ppp_conf.specs.EndConfig.{EndSettings}
 use Rattle.ppp_link.specs.Link.{Link}
 use Rattle.ppp_packet.specs.declared.proto.Proto.{Proto}
-use Rattle.ppp_party.specs.Counted.{AreCounted}
+use Rattle.ppp_party.specs.Counted.{AreCounted, IsCounted}
 use Rattle.ppp_party.specs.Frame.{Frame}
 use Rattle.ppp_party.specs.Happening.{happening_seen}
 use Rattle.ppp_party.specs.Held.{HeldAfter, IsHeld}
 use Rattle.ppp_party.specs.Party.{Ends, Party, delivers, ends_begun, happens, loses, reboots, turned}
-use Rattle.ppp_party.specs.Spans.{NarrowOn, sent_on}
+use Rattle.ppp_party.specs.Ledger.{ledger_at, ledgers_begun}
+use Rattle.ppp_party.specs.Spans.{NarrowOn, ledger_if, sent_on}
 use Rattle.ppp_party.specs.Seat.{IsNoFrame}
 use Rattle.ppp_party.specs.declared.happening.Happening.{Happening}
 use Rattle.ppp_party.specs.declared.happening.Happening.TheVariants as what
@@ -17,16 +23,18 @@ use Rattle.ppp_party.proofs.PartyLemmas.{happens-long, delivers-long, delivers-o
 use Rattle.ppp_party.proofs.SeatLemmas.{same-or}
 use Rattle.ppp_script.specs.declared.end.End.{End}
 use Rattle.ppp_script.specs.declared.end.End.TheVariants.{A, B}
-use Rattle.ppp_station.specs.Station.{IsOfLink, IsReady, on_link}
+use Rattle.ppp_station.specs.Station.{BeginsBy, IsOfLink, IsReady, all_settings, on_link}
 use Rattle.ppp_station.specs.StationOut.{AreShort}
 use Rattle.ppp_station.specs.Steps.{Happening as Does, Takes, link_done}
 use Rattle.ppp_world.specs.Ordinals.{AreOrdinals, AreOrdinalsFor, MayWiden, NoneRose, WidensOn, ordinal_of}
 use Rattle.ppp_world.specs.Outstanding.{outstanding_in}
 use Rattle.ppp_world.specs.Step.{IsLinked, IsShort, moved, party_at, taken_entries, word_of}
-use Rattle.ppp_world.specs.World.{IsSound, most_a_step}
+use Rattle.ppp_world.specs.Run.{AgreeEverywhere}
+use Rattle.ppp_world.specs.World.{BothBegin, IsSound, most_a_step}
 use Rattle.ppp_world.specs.declared.span.Ordinals.{Ordinals}
 use Rattle.ppp_world.specs.declared.step.Step.{Step}
 use Rattle.ppp_world.specs.declared.step.Step.TheVariants.{Happens, Delivers, Loses, Reboots, Reports, Rests}
+use Rattle.ppp_world.proofs.AgreeOnLemmas.{agrees-nowhere, agrees-on}
 use Rattle.ppp_world.proofs.WidthLemmas.{AllNarrow, all-narrow, none-outstanding, there-only}
 
 -- ---- the ends turned
@@ -205,3 +213,74 @@ pub sound-after : (k steps : ℕ) (e after : Ends) (step : Step) → after ≡ m
 sound-after k steps e after step same s is short none counted_a counted_b =
     let kept = subst IsKept (sym same) (step-after k steps e step s is short).kept in
     record { alike = kept.alike; held = kept.held; narrow = all-narrow after none; counted_a = counted_a; counted_b = counted_b }
+
+-- ---- as it begins
+
+settings-count : (n number : ℕ) (s : EndSettings) → length (all_settings n number s) ≡ n
+settings-count zero number s = refl
+settings-count (suc n) number s = ap suc (settings-count n (number + 1) s)
+
+begins-count : (s : EndSettings) (links : List Link) → BeginsBy s links → length links ≡ s.links
+begins-count s links b = sym (length-map links _) ∙ ap length b.settings ∙ settings-count s.links 1 s
+
+ready-at : (links : List Link) (i : ℕ) (k : Link) → AllByRecursion IsReady links → slice_get links i ≡ Some k → IsReady k
+ready-at [] i k all is = absurd (cc)
+ready-at (x ∷ xs) zero k all is = let same : x ≡ k = cc in subst IsReady same all.0
+ready-at (x ∷ xs) (suc i) k all is = ready-at xs i k all.1 is
+
+kept-begun : (c : Config) (own other : List Link) → c.a.links ≡ c.b.links → BothBegin c own other → IsKept (ends_begun own other)
+kept-begun c own other same begin =
+    let of_a = begins-count c.a own begin.a in
+    let of_b = begins-count c.b other begin.b in
+    record {
+      alike = omega (arith, of_a, of_b, same);
+      held = λ m p above below.
+          let k = some_at own (m - 1) (omega (arith, above, below)) in
+          let j = some_at other (m - 1) (omega (arith, above, below, of_a, of_b, same)) in
+          begins-held m p own other k.0 j.0 above k.1 j.1 (ready-at own (m - 1) k.0 begin.a.ready k.1) (ready-at other (m - 1) j.0 begin.b.ready j.1);
+    }
+
+-- ---- two Opened ends agree
+
+agree-kept : (e : Ends) → IsKept e → AgreeEverywhere e
+agree-kept e kept zero p = agrees-nowhere zero p e refl
+agree-kept e kept (suc i) p = elim (slice_get_cases e.own.links i).1 [
+  | inl there ↦ agrees-on (suc i) p e (omega arith) (kept.held (suc i) p (omega arith) (omega (arith, there.1)))
+  | inr past ↦ agrees-nowhere (suc i) p e past.1
+]
+
+pub agree-sound : (e : Ends) (steps : ℕ) → IsSound e steps → AgreeEverywhere e
+agree-sound e steps s = agree-kept e (record { alike = s.alike; held = s.held })
+
+pub agree-begun : (c : Config) (own other : List Link) → c.a.links ≡ c.b.links → BothBegin c own other → AgreeEverywhere (ends_begun own other)
+agree-begun c own other same begin = agree-kept (ends_begun own other) (kept-begun c own other same begin)
+
+-- nothing was sent, and nothing is under way
+ledgers-zero : (n i : ℕ) (p : Proto) (links : List Link) → (ledger_if p (slice_get (map (λ k. ledgers_begun) links) i)).n ≡ 0
+ledgers-zero n i p [] = refl
+ledgers-zero n zero p (k ∷ ks) = by p
+  where
+    by : (p : Proto) → (ledger_at ledgers_begun p).n ≡ 0
+    by p = grind arith
+ledgers-zero n (suc i) p (k ∷ ks) = ledgers-zero n i p ks
+
+narrow-begun : (own other : List Link) → AllNarrow (ends_begun own other)
+narrow-begun own other m p above below = record {
+  of_own = omega (arith, ledgers-zero 0 (m - 1) p own);
+  of_other = omega (arith, ledgers-zero 0 (m - 1) p other);
+}
+
+counted-begun : (most : ℕ) (links : List Link) → AllByRecursion (λ gs. IsCounted most gs) (map (λ k. ledgers_begun) links)
+counted-begun most [] = tt
+counted-begun most (k ∷ ks) = (λ p. grind arith, counted-begun most ks)
+
+pub sound-begun : (c : Config) (own other : List Link) → c.a.links ≡ c.b.links → BothBegin c own other → IsSound (ends_begun own other) 0
+sound-begun c own other same begin =
+    let kept = kept-begun c own other same begin in
+    record {
+      alike = kept.alike;
+      held = kept.held;
+      narrow = narrow-begun own other;
+      counted_a = counted-begun (most_a_step * 0) own;
+      counted_b = counted-begun (most_a_step * 0) other;
+    }

@@ -1,12 +1,13 @@
 -- A world that takes a script's events one by one does the moments of its run, up to the first that is refused.
-use Rattle.std.proofs.Common.{◌≡◌, ℕ, suc, ◌+◌, ◌-◌, ◌≤◌, ◌<◌, List, [], ◌∷◌, ◌++◌, refl, sym, ◌∙◌, ap, arith, append_assoc}
+use Rattle.std.proofs.Common.{◌≡◌, ℕ, suc, ◌+◌, ◌-◌, ◌≤◌, ◌<◌, List, [], ◌∷◌, ◌++◌, refl, sym, ◌∙◌, ap, subst, arith, append_assoc}
 use Rattle.std.specs.Prelude.{Option, Some, None, IsSome, is_some, ⊤, true}
 use Rattle.std.specs.Option.{option_map}
 use Rattle.std.proofs.lemmas.List.{append-nil}
+use Rattle.std.proofs.lemmas.List.Elements.{All-nil, All-cons, All-head, All-tail}
 use Rattle.ppp_party.specs.Party.{Ends}
 use Rattle.ppp_script.specs.declared.event.Event.{Event}
 use Rattle.ppp_world.specs.Outstanding.{outstanding_in}
-use Rattle.ppp_world.specs.Run.{Moment, Place, moment_at, after_moment, deliveries, moments_of, place_after, run_from, shown, shown_at, report, refusal, refusal_with, before_refusal, kept_with}
+use Rattle.ppp_world.specs.Run.{Moment, Place, moment_at, after_moment, deliveries, moments_of, place_after, run_from, shown, shown_at, report, refusal, refusal_with, before_refusal, kept_with, AgreeEverywhere, AgreeThroughout}
 use Rattle.ppp_world.specs.Step.{moved, next_delivery}
 use Rattle.ppp_world.specs.World.{World, world_of, place_of, written_by, unless_halted, does_moment, does_moments, does_step, world_after, settled, UnlessMemory, IsSound, IsSoundUnless}
 use Rattle.ppp_world.specs.declared.outstanding.Outstanding.{Outstanding as Outstanding'}
@@ -56,7 +57,7 @@ onward w p rest at = by_halt w.halt refl
     by_halt None is = ap (λ q. does_moments w (rest q)) (at is)
     by_halt (Some fault) is = halted_moments w (rest (place_of w)) fault is ∙ sym (halted_moments w (rest p) fault is)
 
-place_all : (w : World) (ms : List Moment) → (does_moments w ms).halt ≡ None → place_of (does_moments w ms) ≡ place_after (place_of w) ms
+pub place_all : (w : World) (ms : List Moment) → (does_moments w ms).halt ≡ None → place_of (does_moments w ms) ≡ place_after (place_of w) ms
 place_all w [] going = refl
 place_all w (m ∷ ms) going = by_halt (does_moment w m).halt refl (place_all (does_moment w m) ms going)
   where
@@ -185,29 +186,157 @@ settled_next count w =
     let next = does_moment w m in
     sym (onward next (after_moment m) (λ p. deliveries count p) (place_on w m))
 
+-- ---- that two Opened ends agree in the states that a world was in
+
+-- what is so of all, by what is so of the rest: after a refusal there is none
+abbrev pub SoFar : Option WorldFault → Type 0 → Type 0 → Type 0
+SoFar None rest whole = rest → whole
+SoFar (Some Memory) rest whole = ⊤
+SoFar (Some (Outstanding fault)) rest whole = whole
+
+-- a moment is done, or refused
+pub agreed-moment : (now next : World) (m : Moment) (ms : List Moment) (whole : Type 0) → now.halt ≡ None → UnlessMemory next.halt (next ≡ does_moment now m) →
+    (next.halt ≡ None → AgreeEverywhere next.ends) → (AgreeThroughout (before_refusal (m ∷ ms)) → whole) → SoFar next.halt (AgreeThroughout (before_refusal ms)) whole
+agreed-moment now next m ms whole going done agreed all = by_halt next.halt refl done (outstanding_in m.after) refl
+  where
+    by_halt : (o : Option WorldFault) → next.halt ≡ o → UnlessMemory o (next ≡ does_moment now m) → (fault : Option Outstanding') → outstanding_in m.after ≡ fault →
+        SoFar o (AgreeThroughout (before_refusal ms)) whole
+    by_halt None on did None none =
+        let is : next ≡ written_by now m None = did ∙ open_moment now m going ∙ ap (written_by now m) none in
+        let here = subst AgreeEverywhere (ap (λ (w : World). w.ends) is) (agreed on) in
+        λ rest. all (rw none (All-cons (λ (x : Moment). AgreeEverywhere x.after) m (before_refusal ms) here rest))
+    by_halt None on did (Some fault) some =
+        let is : next ≡ written_by now m (Some fault) = did ∙ open_moment now m going ∙ ap (written_by now m) some in
+        absurd (let halted = ap (λ (w : World). w.halt) is in cc)
+    by_halt (Some Memory) on did fault some = tt
+    by_halt (Some (Outstanding why)) on did None none =
+        let is : next ≡ written_by now m None = did ∙ open_moment now m going ∙ ap (written_by now m) none in
+        absurd (let halted = ap (λ (w : World). w.halt) is in cc)
+    by_halt (Some (Outstanding why)) on did (Some fault) some = all (rw some (All-nil (λ (x : Moment). AgreeEverywhere x.after)))
+
+-- moments behind others count where none of those was refused
+agree-append : (ms ns : List Moment) → refusal ms ≡ None → AgreeThroughout (before_refusal ms) → AgreeThroughout (before_refusal ns) → AgreeThroughout (before_refusal (ms ++ ns))
+agree-append [] ns none front behind = behind
+agree-append (m ∷ ms) ns none front behind = by_fault (outstanding_in m.after) refl none front (agree-append ms ns)
+  where
+    by_fault : (o : Option Outstanding') → outstanding_in m.after ≡ o → refusal_with m o (refusal ms) ≡ None → AgreeThroughout (kept_with m o (before_refusal ms)) →
+        (refusal ms ≡ None → AgreeThroughout (before_refusal ms) → AgreeThroughout (before_refusal ns) → AgreeThroughout (before_refusal (ms ++ ns))) →
+        AgreeThroughout (kept_with m (outstanding_in m.after) (before_refusal (ms ++ ns)))
+    by_fault None is none front below =
+        rw is (All-cons (λ (x : Moment). AgreeEverywhere x.after) m (before_refusal (ms ++ ns)) (All-head (λ (x : Moment). AgreeEverywhere x.after) m (before_refusal ms) front)
+        (below none (All-tail (λ (x : Moment). AgreeEverywhere x.after) m (before_refusal ms) front) behind))
+    by_fault (Some fault) is none front below = absurd (cc)
+
+refused-append : (ms ns : List Moment) → IsSome (refusal ms) → before_refusal (ms ++ ns) ≡ before_refusal ms
+refused-append [] ns some = absurd (cc)
+refused-append (m ∷ ms) ns some = by_fault (outstanding_in m.after) some (refused-append ms ns)
+  where
+    by_fault : (o : Option Outstanding') → IsSome (refusal_with m o (refusal ms)) → (IsSome (refusal ms) → before_refusal (ms ++ ns) ≡ before_refusal ms) →
+        kept_with m o (before_refusal (ms ++ ns)) ≡ kept_with m o (before_refusal ms)
+    by_fault None some below = ap (λ xs. m ∷ xs) (below some)
+    by_fault (Some fault) some below = refl
+
+halted-by : (o : Option Refusal) (fault : WorldFault) → Some fault ≡ halt_of o → IsSome o
+halted-by None fault is = absurd (cc)
+halted-by (Some r) fault is = refl
+
+going-by : (o : Option Refusal) → None ≡ halt_of o → o ≡ None
+going-by None is = refl
+going-by (Some r) is = absurd (cc)
+
+-- the moments of an event are done, up to one that is refused
+pub agreed-moments : (now next : World) (ms ns : List Moment) (whole : Type 0) → now.halt ≡ None → Linked (place_of now) ms → UnlessMemory next.halt (next ≡ does_moments now ms) →
+    UnlessMemory next.halt (AgreeThroughout (before_refusal ms)) → (AgreeThroughout (before_refusal (ms ++ ns)) → whole) → SoFar next.halt (AgreeThroughout (before_refusal ns)) whole
+agreed-moments now next ms ns whole going links done agreed all = by_halt next.halt refl done agreed
+  where
+    by_halt : (o : Option WorldFault) → next.halt ≡ o → UnlessMemory o (next ≡ does_moments now ms) → UnlessMemory o (AgreeThroughout (before_refusal ms)) →
+        SoFar o (AgreeThroughout (before_refusal ns)) whole
+    by_halt None on did agreed =
+        let halted = sym on ∙ ap (λ (w : World). w.halt) did ∙ (becomes ms now going links).halt in
+        λ rest. all (agree-append ms ns (going-by (refusal ms) halted) agreed rest)
+    by_halt (Some Memory) on did agreed = tt
+    by_halt (Some (Outstanding why)) on did agreed =
+        let halted = sym on ∙ ap (λ (w : World). w.halt) did ∙ (becomes ms now going links).halt in
+        all (rw (refused-append ms ns (halted-by (refusal ms) (Outstanding why) halted)) agreed)
+
 -- so many of the deliveries of a settling are done
 pub record SettlesOn (count i : ℕ) (first now : World) : Type 0 where
   pub done : UnlessMemory now.halt (settled count first ≡ settled (count - i) now)
   pub halted : IsSome first.halt → now ≡ first
   pub steps : now.steps ≤ first.steps + i
+  pub agreed : first.halt ≡ None → SoFar now.halt (AgreeThroughout (before_refusal (deliveries (count - i) (place_of now)))) (AgreeThroughout (before_refusal (deliveries count (place_of first))))
 
 pub settles_first : (count : ℕ) (first : World) → SettlesOn count 0 first first
 settles_first count first =
     let whole : count - 0 ≡ count = omega arith in
-    record { done = unless_always first.halt (rw whole refl); halted = λ some. refl; steps = omega arith }
+    record { done = unless_always first.halt (rw whole refl); halted = λ some. refl; steps = omega arith; agreed = λ going. rw (going, whole) (λ all. all) }
+
+settles-agreed : (count i : ℕ) (first now next : World) → i < count → UnlessMemory next.halt (next ≡ does_step now (next_delivery now.ends)) → (IsSome now.halt → next ≡ now) →
+    (next.halt ≡ None → AgreeEverywhere next.ends) → (o : Option WorldFault) → now.halt ≡ o →
+    SoFar o (AgreeThroughout (before_refusal (deliveries (count - i) (place_of now)))) (AgreeThroughout (before_refusal (deliveries count (place_of first)))) →
+    SoFar next.halt (AgreeThroughout (before_refusal (deliveries (count - (i + 1)) (place_of next)))) (AgreeThroughout (before_refusal (deliveries count (place_of first))))
+settles-agreed count i first now next below done stays agreed None going far =
+    let left : count - i ≡ suc (count - (i + 1)) = omega arith in
+    let whole = AgreeThroughout (before_refusal (deliveries count (place_of first))) in
+    let m = moment_at (place_of now) (next_delivery now.ends) in
+    at_next (agreed-moment now next m (deliveries (count - (i + 1)) (after_moment m)) whole going done agreed (rw left at far))
+  where
+    m' : Moment
+    m' = moment_at (place_of now) (next_delivery now.ends)
+
+    at_next : SoFar next.halt (AgreeThroughout (before_refusal (deliveries (count - (i + 1)) (after_moment m')))) (AgreeThroughout (before_refusal (deliveries count (place_of first)))) →
+        SoFar next.halt (AgreeThroughout (before_refusal (deliveries (count - (i + 1)) (place_of next)))) (AgreeThroughout (before_refusal (deliveries count (place_of first))))
+    at_next far = by_halt next.halt refl done far
+      where
+        by_halt : (o : Option WorldFault) → next.halt ≡ o → UnlessMemory o (next ≡ does_step now (next_delivery now.ends)) →
+            SoFar o (AgreeThroughout (before_refusal (deliveries (count - (i + 1)) (after_moment m')))) (AgreeThroughout (before_refusal (deliveries count (place_of first)))) →
+            SoFar o (AgreeThroughout (before_refusal (deliveries (count - (i + 1)) (place_of next)))) (AgreeThroughout (before_refusal (deliveries count (place_of first))))
+        by_halt None on did far =
+            let at : place_of next ≡ after_moment m' = ap place_of did ∙ place_on now m' (sym (ap (λ (w : World). w.halt) did) ∙ on) in
+            rw at far
+        by_halt (Some Memory) on did far = tt
+        by_halt (Some (Outstanding why)) on did far = far
+settles-agreed count i first now next below done stays agreed (Some Memory) is far = let same : next ≡ now = stays (rw is refl) in rw (same, is) tt
+settles-agreed count i first now next below done stays agreed (Some (Outstanding why)) is far = let same : next ≡ now = stays (rw is refl) in rw (same, is) far
 
 pub settles_next : (count i : ℕ) (first now next : World) → i < count → UnlessMemory next.halt (next ≡ does_step now (next_delivery now.ends)) → (IsSome now.halt → next ≡ now) → next.steps ≤ now.steps + 1 →
-    SettlesOn count i first now → SettlesOn count (i + 1) first next
-settles_next count i first now next below done stays steps far =
+    (next.halt ≡ None → AgreeEverywhere next.ends) → SettlesOn count i first now → SettlesOn count (i + 1) first next
+settles_next count i first now next below done stays steps agreed far =
     let left : count - i ≡ suc (count - (i + 1)) = omega arith in
     record {
       done = unless_both next.halt (unless_later now.halt now next (settled count first ≡ settled (count - i) now) refl stays far.done) done
           (λ before one. before ∙ ap (λ k. settled k now) left ∙ settled_next (count - (i + 1)) now ∙ ap (settled (count - (i + 1))) (sym one));
       halted = λ some. let same : now ≡ first = far.halted some in stays (rw same some) ∙ same;
       steps = omega (arith, far.steps, steps);
+      agreed = λ going. settles-agreed count i first now next below done stays agreed now.halt refl (far.agreed going);
     }
 
 pub settles_all : (count i : ℕ) (first now : World) → count ≤ i → SettlesOn count i first now → UnlessMemory now.halt (now ≡ settled count first)
 settles_all count i first now all far =
     let none : count - i ≡ 0 = omega arith in
     unless_map now.halt far.done (λ same. sym (same ∙ ap (λ k. settled k now) none))
+
+pub settled-agreed : (count i : ℕ) (first now : World) → count ≤ i → SettlesOn count i first now → first.halt ≡ None →
+    UnlessMemory now.halt (AgreeThroughout (before_refusal (deliveries count (place_of first))))
+settled-agreed count i first now all far going = by_halt now.halt (far.agreed going)
+  where
+    none : count - i ≡ 0
+    none = omega arith
+
+    by_halt : (o : Option WorldFault) → SoFar o (AgreeThroughout (before_refusal (deliveries (count - i) (place_of now)))) (AgreeThroughout (before_refusal (deliveries count (place_of first)))) →
+        UnlessMemory o (AgreeThroughout (before_refusal (deliveries count (place_of first))))
+    by_halt None rest = rest (rw none (All-nil (λ (x : Moment). AgreeEverywhere x.after)))
+    by_halt (Some Memory) rest = tt
+    by_halt (Some (Outstanding why)) rest = rest
+
+-- an event that is one step
+pub one-agreed : (now next : World) (step : Step) → now.halt ≡ None → UnlessMemory next.halt (next ≡ does_step now step) → (next.halt ≡ None → AgreeEverywhere next.ends) →
+    UnlessMemory next.halt (AgreeThroughout (before_refusal (moment_at (place_of now) step ∷ [])))
+one-agreed now next step going done agreed =
+    let m = moment_at (place_of now) step in
+    by_halt next.halt (agreed-moment now next m [] (AgreeThroughout (before_refusal (m ∷ []))) going done agreed (λ all. all))
+  where
+    by_halt : (o : Option WorldFault) {whole : Type 0} → SoFar o (AgreeThroughout (before_refusal [])) whole → UnlessMemory o whole
+    by_halt None rest = rest (All-nil (λ (x : Moment). AgreeEverywhere x.after))
+    by_halt (Some Memory) rest = tt
+    by_halt (Some (Outstanding why)) rest = rest

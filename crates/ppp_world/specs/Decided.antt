@@ -9,7 +9,7 @@ use Rattle.ppp_lcp.specs.LcpKind.{kind_number}
 use Rattle.ppp_lcp.specs.LcpSettings.{LcpSettings, settings_seen}
 use Rattle.ppp_lcp.specs.declared.lcp_kind.LcpKind.{LcpKind}
 use Rattle.ppp_lcp.specs.declared.lcp_table.LcpTable.{LcpTable}
-use Rattle.ppp_world.specs.Party.{lcp_of}
+use Rattle.ppp_link.specs.LinkTables.{lcp_table}
 
 -- Of an option, at an end `e` of the settings s whose peer `f` has t:
 pub record Decided (kind : LcpKind) (s t : LcpSettings) (e f : End) : Type 0 where
@@ -24,4 +24,4 @@ pub record AreDecided (kind : LcpKind) (s t : LcpSettings) (d : Duet) : Type 0 w
 
 -- in every state of every run, however wide the spans are
 abbrev pub SettingsDecide : LcpKind → LcpTable → LcpTable → Type 0
-SettingsDecide kind a b = InEveryRun lcp_of (AreDecided kind (settings_seen a) (settings_seen b)) a b
+SettingsDecide kind a b = InEveryRun lcp_table (AreDecided kind (settings_seen a) (settings_seen b)) a b

@@ -1,9 +1,9 @@
 -- What the replay of a script comes to.
-use Rattle.std.specs.Prelude.{◌≡◌, ℕ, List, Option}
+use Rattle.std.specs.Prelude.{◌≡◌, ℕ, List, Option, None}
 use Rattle.ppp_conf.specs.Config.{Settings as Config}
 use Rattle.ppp_link.specs.Link.{Link}
 use Rattle.ppp_script.specs.declared.event.Event.{Event}
-use Rattle.ppp_world.specs.Run.{AgreesInRun, refusal, report_of, run_of}
+use Rattle.ppp_world.specs.Run.{AgreesInRun, refusal, report, report_of, run_of}
 use Rattle.ppp_world.specs.World.{BothBegin}
 use Rattle.ppp_world.specs.declared.refusal.Refusal.{Refusal}
 
@@ -13,6 +13,8 @@ pub record IsReplay (c : Config) (events : List Event) (octets : List ℕ) (refu
   pub own : List Link
   pub other : List Link
   pub begin : BothBegin c own other
-  pub report : octets ≡ report_of own other events
+  pub reported : octets ≡ report_of own other events
+  -- where no step is refused, it is the report of the whole run
+  pub whole : refused ≡ None → octets ≡ report (run_of own other events)
   pub stopped : refused ≡ refusal (run_of own other events)
   pub agreement : AgreesInRun own other events

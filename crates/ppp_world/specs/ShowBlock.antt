@@ -1,5 +1,5 @@
 -- The report of a world: a block for each `show`.
-use Rattle.std.specs.Prelude.{ℕ, zero, suc, Bool, ◌||◌, if◌then◌else◌, List, [], ◌∷◌, ◌++◌, length, Option, Some, None, is_some, codes}
+use Rattle.std.specs.Prelude.{ℕ, zero, suc, Bool, ◌||◌, if◌then◌else◌, List, [], ◌∷◌, ◌++◌, length, Option, Some, None, is_some, option_map, codes}
 use Rattle.std.specs.Fmt.{decimal}
 use Rattle.std.specs.List.{flat_map}
 use Rattle.std.specs.Option.{option_and_then}
@@ -8,33 +8,34 @@ use Rattle.ppp_packet.specs.declared.proto.Proto.{Proto}
 use Rattle.ppp_packet.specs.declared.proto.Proto.TheVariants.{Lcp, Ip, Ipv6, Osi, Mpls, Bacp}
 use Rattle.ppp_auto.specs.Auto.{Auto, mine_of, peer_of}
 use Rattle.ppp_auto.specs.AutoState.{state_name}
+use Rattle.ppp_auto.specs.declared.auto_state.AutoState.{AutoState}
 use Rattle.ppp_link.specs.Link.{Link}
 use Rattle.ppp_party.specs.Party.{Ends}
 use Rattle.ppp_world.specs.AgreeOn.{agree_on, auto_on, opened_on}
 use Rattle.ppp_world.specs.Report.{agree_text, list_text}
 
--- the state of an end
-abbrev pub state_text : Option Auto → List ℕ
+-- the state of an end, where it has the protocol
+abbrev pub state_text : Option AutoState → List ℕ
 state_text None = codes "Absent"
-state_text (Some a) = state_name a.state
+state_text (Some s) = state_name s
 
 -- the lists granted to an end and to its peer
 unfoldable pub granted_text : Option Auto → List ℕ
 granted_text a = list_text (option_and_then mine_of a) ++ codes " " ++ list_text (option_and_then peer_of a)
 
 -- the states at both ends
-unfoldable pub both_states : Option Auto → Option Auto → List ℕ
+unfoldable pub both_states : Option AutoState → Option AutoState → List ℕ
 both_states a b = state_text a ++ codes " " ++ state_text b
 
--- what is granted to each end and to its peer
-unfoldable pub both_granted : Option Auto → Option Auto → List ℕ
-both_granted a b = granted_text a ++ codes " " ++ granted_text b
+-- what is granted to each end and to its peer, and whether they agree
+unfoldable pub terms_text : Option Auto → Option Auto → Option Bool → List ℕ
+terms_text a b agree = granted_text a ++ codes " " ++ granted_text b ++ codes " agree " ++ agree_text agree
 
 -- the line of a protocol on a link
-unfoldable pub line : ℕ → Proto → Option Auto → Option Auto → Option Bool → List ℕ
+abbrev pub line : ℕ → Proto → Option Auto → Option Auto → Option Bool → List ℕ
 line m p a b agree =
-    decimal m ++ codes " " ++ proto_name p ++ codes " " ++ both_states a b ++ codes " " ++ both_granted a b
-    ++ codes " agree " ++ agree_text agree ++ codes "\n"
+    decimal m ++ codes " " ++ proto_name p ++ codes " " ++ both_states (option_map (λ a. a.state) a) (option_map (λ b. b.state) b)
+    ++ codes " " ++ terms_text a b agree ++ codes "\n"
 
 -- nothing where neither end has it
 abbrev pub line_if : ℕ → Proto → Option Auto → Option Auto → Option Bool → List ℕ

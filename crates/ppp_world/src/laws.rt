@@ -8,12 +8,14 @@ ghost use Rattle.ppp_lcp.specs.LcpKind.{kind_number};
 ghost use Rattle.ppp_lcp.specs.declared.lcp_kind.LcpKind.{LcpKind};
 ghost use Rattle.ppp_lcp.specs.declared.lcp_kind.LcpKind.TheVariants.{Magic, Mrru, Short, Classes};
 ghost use Rattle.ppp_lcp.specs.LcpSettings.{settings_seen};
-ghost use Rattle.ppp_lcp.specs.LcpTable.{FitsMagic, lcp_rules};
+ghost use Rattle.ppp_lcp.specs.LcpTable.{lcp_rules};
 ghost use Rattle.ppp_ncp.specs.declared.ipv6_table.TheConstants.{IDENTIFIER};
 ghost use Rattle.ppp_options.specs.Rules.{Allows, Sendable};
+ghost use Rattle.ppp_link.specs.LinkTables.{LinkTables, lcp_table, table_of};
+ghost use Rattle.ppp_packet.specs.declared.proto.Proto.{Proto};
+ghost use Rattle.ppp_world.specs.AgreeOn.{Fits, rules_of};
 ghost use Rattle.ppp_world.specs.Decided.{SettingsDecide};
 ghost use Rattle.ppp_world.specs.Difference.{Difference, BothHaveNumbers, OneFavoured};
-ghost use Rattle.ppp_world.specs.Party.{lcp_of};
 
 use ppp_auto::OptionTable;
 use ppp_bacp::BacpTable;
@@ -49,12 +51,10 @@ pub fn settings_decide(a: &LcpTable, b: &LcpTable)
     ensures each { (kind : LcpKind) → kind ≢ Magic → SettingsDecide kind a.now b.now }
 {}
 
-/// Both laws for LCP's table, from its own laws, with nothing assumed.
-pub(crate) fn hold_of_lcp(a: &LcpTable, b: &LcpTable)
-    ensures agreement { Agreement lcp_of (λ t. Sendable (lcp_rules (settings_seen t)))
-        (λ t. Allows (lcp_rules (settings_seen t))) FitsMagic a.now b.now }
-    ensures reopening { Reopening (lcp_of a.now) (lcp_of b.now) }
-{
-    agreement(a, b);
-    reopening(a, b);
-}
+/// Two Opened ends agree, and an end that opens again was left alone meanwhile: of each control protocol with the tables of
+/// any two links, from the tables' own laws, with nothing assumed.
+pub fn hold_of_tables()
+    ensures agreement { (p : Proto) (s t : LinkTables) → Agreement (λ k. table_of k p)
+        (λ k. Sendable (rules_of k p)) (λ k. Allows (rules_of k p)) (Fits p) s t }
+    ensures reopening { (p : Proto) (s t : LinkTables) → Reopening (table_of s p) (table_of t p) }
+{}

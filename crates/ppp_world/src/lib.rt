@@ -1,31 +1,28 @@
-//! Two ends of a link and the queues between them, stepped by the events of a script: LCP alone on one link (RFC 1661).
+//! Two whole ends, a and b, and the frames under way between them, stepped by the events of a script: LCP and the network
+//! control protocols on up to 16 links (RFC 1661).
 //!
 //! [`replay`] runs a whole script and answers a [`Replayed`]: the report, and the [`Refusal`] of the first step that is
-//! refused, which prints itself. [`World`] is the same step by step: `step` for each event, `agree` and `report` between
-//! them. A step is refused with [`Outstanding`] where an Identifier no longer tells the requests under way apart, and
-//! after that every call gives the same refusal. There is no clock, and nothing is read or written outside.
+//! refused, which prints itself. [`World`] is the same step by step: `step` for each event, `agree`, `a`, `b` and `report`
+//! between them. A step is refused with [`Outstanding`] where an Identifier no longer tells the requests under way apart,
+//! and after that every call gives the same refusal. There is no clock, and nothing is read or written outside.
 //!
-//! [`laws`] has what holds of two ends with the shipped tables, IPV6CP's and BACP's among them, in every run.
+//! [`laws`] has what holds of two ends with the shipped tables in every run.
 #![tactic(auto)]
 
-mod agreement;
-mod frame;
+mod agree_on;
 pub mod laws;
-mod ledger;
 mod outstanding;
-mod party;
-mod queue;
 mod refusal;
 mod replayed;
-mod report;
-mod settings;
+mod show_block;
+mod span;
 mod step;
 mod two_ends;
 mod world;
 mod world_fault;
 
 pub use outstanding::Outstanding;
-pub use ppp_auto::Memory;
+pub use ppp_memory::Memory;
 pub use refusal::Refusal;
 pub use replayed::{Replayed, replay};
 pub use world::World;

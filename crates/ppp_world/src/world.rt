@@ -5,13 +5,13 @@ ghost use Rattle.std.specs.String.{string_bytes};
 ghost use Rattle.ppp_conf.specs.Config.{config_seen};
 ghost use Rattle.ppp_script.specs.Event.{steps_in};
 ghost use Rattle.ppp_script.specs.declared.script.TheConstants.{MOST_STEPS};
-ghost use Rattle.ppp_world.specs.Agreement.{agree_on, AreOpenedOn};
-ghost use Rattle.ppp_world.specs.Run.{shown_at};
-ghost use Rattle.ppp_world.specs.Step.{IsLinked};
-ghost use Rattle.ppp_world.specs.World.{answer_of, does_step, fault_in, settled, world_after, world_of, IsBegun, IsSound, UnlessMemory};
+ghost use Rattle.ppp_world.specs.AgreeOn.{agree_on, AreOpenedOn};
+ghost use Rattle.ppp_world.specs.Run.{before_refusal, deliveries, moments_of, shown_at, AgreeEverywhere, AgreeThroughout};
+ghost use Rattle.ppp_world.specs.Step.{next_delivery, IsLinked};
+ghost use Rattle.ppp_world.specs.World.{answer_of, does_step, fault_in, place_of, settled, world_after, world_of, IsBegun, IsSound, UnlessMemory};
 
-use crate::agreement::agree;
-use crate::report::write_show;
+use crate::agree_on::agree;
+use crate::show_block::write_show;
 use crate::span::{Ordinals, wider_since};
 use crate::step::{Step, settling};
 use crate::two_ends::TwoEnds;
@@ -62,10 +62,12 @@ impl World {
 
     /// Does the steps of an event. Outstanding comes exactly where one of them would make an end's requests under way
     /// span more than 255 ordinals: those before it are done and counted. After a refusal no further step is done, and
-    /// every call gives the same refusal.
+    /// every call gives the same refusal. After each step two Opened ends of a protocol agree, on each link.
     pub fn step(&mut self, event: &Event) -> Result<(), WorldFault>
         requires { self.old.steps + steps_in event.now ≤ MOST_STEPS }
         ensures done { UnlessMemory self.new.halt (self.new ≡ world_after self.old event.now) }
+        ensures agreed { self.old.halt ≡ None → UnlessMemory self.new.halt
+            (AgreeThroughout (before_refusal (moments_of event.now (place_of self.old)))) }
         ensures answer { result ≡ answer_of self.new.halt }
         ensures halted { IsSome self.old.halt → self.new ≡ self.old }
         ensures steps { self.new.steps ≤ self.old.steps + steps_in event.now }
@@ -130,6 +132,8 @@ impl World {
     fn run(&mut self, event: &Event)
         requires { self.old.steps + steps_in event.now ≤ MOST_STEPS }
         ensures done { UnlessMemory self.new.halt (self.new ≡ world_after self.old event.now) }
+        ensures agreed { self.old.halt ≡ None → UnlessMemory self.new.halt
+            (AgreeThroughout (before_refusal (moments_of event.now (place_of self.old)))) }
         ensures halted { IsSome self.old.halt → self.new ≡ self.old }
         ensures steps { self.new.steps ≤ self.old.steps + steps_in event.now }
     {
@@ -146,6 +150,8 @@ impl World {
     fn settle(&mut self, count: u16)
         requires { self.old.steps + count ≤ MOST_STEPS }
         ensures done { UnlessMemory self.new.halt (self.new ≡ settled count self.old) }
+        ensures agreed { self.old.halt ≡ None → UnlessMemory self.new.halt
+            (AgreeThroughout (before_refusal (deliveries count (place_of self.old)))) }
         ensures halted { IsSome self.old.halt → self.new ≡ self.old }
         ensures steps { self.new.steps ≤ self.old.steps + count }
     {
@@ -158,6 +164,7 @@ impl World {
     fn deliver_next(&mut self)
         requires { self.old.steps + 1 ≤ MOST_STEPS }
         ensures done { UnlessMemory self.new.halt (self.new ≡ does_step self.old (next_delivery self.old.ends)) }
+        ensures agreed { self.new.halt ≡ None → AgreeEverywhere self.new.ends }
         ensures halted { IsSome self.old.halt → self.new ≡ self.old }
         ensures steps { self.new.steps ≤ self.old.steps + 1 }
     {
@@ -173,6 +180,7 @@ impl World {
         requires few { self.old.steps + 1 ≤ MOST_STEPS }
         requires linked { IsLinked (length self.old.ends.own.links) step }
         ensures done { UnlessMemory self.new.halt (self.new ≡ does_step self.old step) }
+        ensures agreed { self.new.halt ≡ None → AgreeEverywhere self.new.ends }
         ensures halted { IsSome self.old.halt → self.new ≡ self.old }
         ensures steps { self.new.steps ≤ self.old.steps + 1 }
     {

@@ -1,0 +1,10 @@
+use Rattle.std.proofs.Common.{◌≡◌, ◌++◌, take}
+use Rattle.std.specs.List.{flat_map}
+use Rattle.std.specs.String.{string_bytes}
+use Rattle.ppp_world.specs.AgreeOn.{opened_on}
+use Rattle.ppp_world.specs.ShowBlock.{line_on, protos}
+use Rattle.ppp_world.proofs.show_block.write_link.Given as goal
+
+abbrev pub invariant-loop-i : goal.invariant-loop-i
+invariant-loop-i l =
+    string_bytes l.report ≡ string_bytes l.initial.report ++ flat_map (line_on (λ m p. opened_on m p l.a l.b) l.link l.a l.b) (take l.i protos)

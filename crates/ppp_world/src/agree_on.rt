@@ -1,0 +1,41 @@
+//! Whether the two ends of a world agree.
+
+ghost use Rattle.std.specs.Prelude.{◌≡◌, length, Some};
+ghost use Rattle.ppp_station.specs.Station.{IsOfLink};
+ghost use Rattle.ppp_world.specs.AgreeOn.{link_on, opened_on, state_on};
+
+use ppp_auto::AutoState;
+use ppp_link::Link;
+use ppp_packet::Proto;
+use ppp_station::Station;
+
+/// Whether the two ends of a protocol on a link agree: None where not both are Opened, as where one of them has no such link
+/// or doesn't speak the protocol. That two Opened ends agree is proved of every state that a script leads to, so nothing but
+/// the states is looked at.
+pub(crate) fn agree(a: &Station, b: &Station, link: u8, proto: Proto) -> Option<bool>
+    ensures { result ≡ opened_on link proto a.now b.now }
+{
+    match (state(a, link, proto), state(b, link, proto)) {
+        (Some(AutoState::Opened), Some(AutoState::Opened)) => Some(true),
+        _ => None,
+    }
+}
+
+/// The state of a protocol on a link of an end, where it has both.
+fn state(station: &Station, link: u8, proto: Proto) -> Option<AutoState>
+    ensures { result ≡ state_on link proto station.now }
+{
+    if link == 0 || link > station.links() {
+        return None;
+    }
+    link_of(station, link).state(proto)
+}
+
+/// The link of a station of that number.
+#[tactic(auto, using(crate::proofs::AgreeOnLemmas::link_there))]
+pub(crate) fn link_of(station: &Station, link: u8) -> &Link
+    requires { IsOfLink (length station.now) link }
+    ensures { link_on link station.now ≡ Some result.now }
+{
+    station.link(link)
+}
