@@ -73,6 +73,7 @@ agreed_so_far own other all now next rest more event is done agreed far =
 
 pub replays_next : (own other : List Link) (all : List Event) (now next : World) (rest more : List Event) (event : Event) (answer : Result (Unit {0}) WorldFault) → rest ≡ event ∷ more →
     answer ≡ answer_of next.halt → answer ≡ Ok tt → UnlessMemory next.halt (next ≡ world_after now event) → next.steps ≤ now.steps + steps_in event →
+    (now.halt ≡ None → UnlessMemory next.halt (AgreeThroughout (before_refusal (moments_of event (place_of now))))) →
     ReplaysOn own other all now rest → ReplaysOn own other all next more
 replays_next own other all now next rest more event answer is answers ok done steps agreed far =
     let going = going_answer next.halt (sym ok ∙ answers) in
@@ -81,12 +82,12 @@ replays_next own other all now next rest more event answer is answers ok done st
       same = (rw is at far.same) ∙ ap (λ w. world_after_all w more) (sym (done_if next.halt going done));
       going = going;
       room = omega (arith, room, steps, sum_by-cons steps_in event more);
-      agreed = on next.halt going (agreed_so_far own other all now next rest more event is done agreed far);
+      agreed = on next.halt going _ _ (agreed_so_far own other all now next rest more event is done agreed far);
     }
   where
-    on : (o : Option WorldFault) → o ≡ None → {rest whole : Type 0} → SoFar o rest whole → rest → whole
-    on None is all = all
-    on (Some fault) is all = absurd (cc)
+    on : (o : Option WorldFault) → o ≡ None → (rest whole : Type 0) → SoFar o rest whole → rest → whole
+    on None is rest whole all = all
+    on (Some fault) is rest whole all = absurd (cc)
 
 -- at the end, no step was refused
 no_refusal : (o : Option Refusal) → None ≡ halt_of o → o ≡ None

@@ -19,7 +19,7 @@ use Rattle.ppp_party.specs.Seat.{IsNoFrame}
 use Rattle.ppp_party.specs.declared.happening.Happening.{Happening}
 use Rattle.ppp_party.specs.declared.happening.Happening.TheVariants as what
 use Rattle.ppp_party.proofs.HeldLemmas.{begins-held, happens-held, delivers-held, loses-held, reboots-held, turned-held}
-use Rattle.ppp_party.proofs.PartyLemmas.{happens-long, delivers-long, delivers-others, reboots-long}
+use Rattle.ppp_party.proofs.PartyLemmas.{happens-long, happens-others, delivers-long, delivers-others, loses-long, loses-others, reboots-long}
 use Rattle.ppp_party.proofs.SeatLemmas.{same-or}
 use Rattle.ppp_script.specs.declared.end.End.{End}
 use Rattle.ppp_script.specs.declared.end.End.TheVariants.{A, B}
@@ -71,9 +71,9 @@ narrow-quiet l e after step quiet m p above below =
     ]
 
 -- what is kept but for the ordinals' bounds
-record IsKept (e : Ends) : Type 0 where
-  alike : length e.other.links ≡ length e.own.links
-  held : (m : ℕ) (p : Proto) → 1 ≤ m → m ≤ length e.own.links → IsHeld m p e
+pub record IsKept (e : Ends) : Type 0 where
+  pub alike : length e.other.links ≡ length e.own.links
+  pub held : (m : ℕ) (p : Proto) → 1 ≤ m → m ≤ length e.own.links → IsHeld m p e
 
 kept-turned : (e : Ends) → IsKept e → IsKept (turned e)
 kept-turned e k = record { alike = sym k.alike; held = λ m p above below. turned-held m p e (k.held m p above (omega (arith, below, k.alike))) }
@@ -107,7 +107,7 @@ module _ (e : Ends) (steps : ℕ) (sound : IsSound e steps) (l : ℕ) (is : IsOf
       let k = some_at e.own.links (l - 1) (omega (arith, is.0, is.1)) in
       record {
         own_long = happens-long (happening_seen what) l word e;
-        other_long = refl;
+        other_long = happens-others (happening_seen what) l word e;
         held = λ m p above below. happens-held (happening_seen what) l m p word e k.0 is.0 above k.1 (no_frame what) (short-done (happening_seen what) l word e.own.links k.0 k.1 short)
             (sound.narrow m p above below) (sound.held m p above below);
       }
@@ -125,8 +125,8 @@ module _ (e : Ends) (steps : ℕ) (sound : IsSound e steps) (l : ℕ) (is : IsOf
 
   loses-on : (place : ℕ) → StepOn l e (loses l place e)
   loses-on place = record {
-    own_long = refl;
-    other_long = refl;
+    own_long = loses-long l place e;
+    other_long = loses-others l place e;
     held = λ m p above below. loses-held l m place p e is.0 above (sound.narrow m p above below) (sound.held m p above below);
   }
 
@@ -137,9 +137,9 @@ taken-short : (l word : ℕ) (party : Party) → AreShort (taken_entries l party
 taken-short l word party short f rest front = rw front at short
 
 -- what is so of the two ends after a step, as a and b stand
-record After (step : Step) (e after : Ends) : Type 0 where
-  kept : IsKept after
-  widens : (before : Ordinals) → AreOrdinalsFor step e before → MayWiden step before after
+pub record After (step : Step) (e after : Ends) : Type 0 where
+  pub kept : IsKept after
+  pub widens : (before : Ordinals) → AreOrdinalsFor step e before → MayWiden step before after
 
 -- a step on a link: what it may raise are the ordinals of its end there
 widens-on : (at : End) (l : ℕ) (before : Ordinals) (after : Ends) → 1 ≤ l → l ≤ length after.own.links →

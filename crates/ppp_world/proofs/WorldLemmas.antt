@@ -334,9 +334,9 @@ pub one-agreed : (now next : World) (step : Step) → now.halt ≡ None → Unle
     UnlessMemory next.halt (AgreeThroughout (before_refusal (moment_at (place_of now) step ∷ [])))
 one-agreed now next step going done agreed =
     let m = moment_at (place_of now) step in
-    by_halt next.halt (agreed-moment now next m [] (AgreeThroughout (before_refusal (m ∷ []))) going done agreed (λ all. all))
+    by_halt next.halt (AgreeThroughout (before_refusal (m ∷ []))) (agreed-moment now next m [] (AgreeThroughout (before_refusal (m ∷ []))) going done agreed (λ all. all))
   where
-    by_halt : (o : Option WorldFault) {whole : Type 0} → SoFar o (AgreeThroughout (before_refusal [])) whole → UnlessMemory o whole
-    by_halt None rest = rest (All-nil (λ (x : Moment). AgreeEverywhere x.after))
-    by_halt (Some Memory) rest = tt
-    by_halt (Some (Outstanding why)) rest = rest
+    by_halt : (o : Option WorldFault) (whole : Type 0) → SoFar o (AgreeThroughout (before_refusal [])) whole → UnlessMemory o whole
+    by_halt None whole rest = rest (All-nil (λ (x : Moment). AgreeEverywhere x.after))
+    by_halt (Some Memory) whole rest = tt
+    by_halt (Some (Outstanding why)) whole rest = rest
