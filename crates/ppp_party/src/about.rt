@@ -41,6 +41,17 @@ pub(crate) struct About {
 }
 
 impl About {
+    /// What is kept of what a frame carries.
+    pub(crate) fn of(carried: &Option<Carried<'_>>) -> Option<About>
+        ensures { result ≡ about_of (option_map carried_seen carried.now) }
+    {
+        let carried = carried.as_ref()?;
+        Some(About {
+            proto: carried.proto,
+            kind: PacketKind::of(&carried.packet),
+        })
+    }
+
     /// Whether it is a Configure-Request of that protocol.
     pub(crate) fn is_request_of(self, proto: Proto) -> bool
         ensures { result ≡ requests_of proto (Some self) }
@@ -53,18 +64,5 @@ impl About {
         ensures { result ≡ answers_of proto (Some self) }
     {
         self.proto.number() == proto.number() && matches!(self.kind, PacketKind::Answer)
-    }
-}
-
-/// What is kept of what a frame carries.
-pub(crate) fn about(carried: &Option<Carried<'_>>) -> Option<About>
-    ensures { result ≡ about_of (option_map carried_seen carried.now) }
-{
-    match carried {
-        Some(carried) => Some(About {
-            proto: carried.proto,
-            kind: PacketKind::of(&carried.packet),
-        }),
-        None => None,
     }
 }

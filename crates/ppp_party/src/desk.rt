@@ -8,7 +8,7 @@ ghost use Rattle.ppp_party.specs.Reader.{IsOpen};
 ghost use Rattle.ppp_station.specs.StationOut.{entry_seen};
 ghost use Rattle.ppp_station.specs.declared.station_out.TheConstants.{MOST_ENTRIES};
 
-use crate::about::about;
+use crate::about::About;
 use crate::carried::lent_carried;
 use crate::ledgers::Ledgers;
 use crate::queue::Queue;
@@ -107,5 +107,5 @@ fn post_frame(
     read(reader, octets);
     let carried = lent_carried(reader);
     let mark = ledgers.post(mark, &carried)?;
-    queue.send(mark, about(&carried), octets)
+    queue.send(mark, About::of(&carried), octets)
 }

@@ -182,12 +182,7 @@ impl Party {
     }
 
     /// The end begins anew, and the other sees its lines go down. What is under way both ways is lost.
-    pub fn reboot(
-        &mut self,
-        other: &mut Party,
-        desk: &mut Desk,
-        word: u64,
-    ) -> Result<(), Memory>
+    pub fn reboot(&mut self, other: &mut Party, desk: &mut Desk, word: u64) -> Result<(), Memory>
         requires alike { length other.old.links ≡ length self.old.links }
         requires few { AreCounted (2 ^ 61) other.old }
         ensures done { OnOk result (record { own = self.new; other = other.new }
@@ -195,8 +190,7 @@ impl Party {
         ensures counted { AreCounted 0 self.new }
         ensures others { (n : ℕ) → AreCounted n other.old → OnOk result (AreCounted (n + 16 * MOST_ENTRIES) other.new) }
     {
-        self.station
-            .event(StationEvent::Reset, word, &mut desk.out);
+        self.station.event(StationEvent::Reset, word, &mut desk.out);
         self.begin();
         other.clear();
         other.go_down(self, desk, word)
