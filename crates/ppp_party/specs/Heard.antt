@@ -41,12 +41,7 @@ heard_in g (Some state) mark packet = heard g state mark packet
 
 -- one protocol's ledger changes
 abbrev pub ledgers_with : Ledgers → Proto → Ledger → Ledgers
-ledgers_with gs Lcp g = record gs { lcp = g }
-ledgers_with gs Ip g = record gs { ip = g }
-ledgers_with gs Ipv6 g = record gs { ipv6 = g }
-ledgers_with gs Osi g = record gs { osi = g }
-ledgers_with gs Mpls g = record gs { mpls = g }
-ledgers_with gs Bacp g = record gs { bacp = g }
+ledgers_with gs q g = ledgers_by (λ p. if is_same p q then g else ledger_at gs p)
 
 -- what the ledgers hear of what a link lends
 abbrev pub hears : Ledgers → States → ℕ → Option Carried → Ledgers

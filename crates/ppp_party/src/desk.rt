@@ -46,11 +46,11 @@ pub(crate) fn post(
     ledgers: &mut Ledgers,
     queue: &mut Queue,
 ) -> Result<(), Memory>
-    requires open { IsOpen reader.old }
+    requires reader { IsOpen reader.old }
     requires few { length out.now.entries ≤ MOST_ENTRIES }
     requires counted { IsCounted (2 ^ 62) ledgers.old }
     requires queue { length queue.old ≤ room }
-    ensures open { IsOpen reader.new }
+    ensures reader { IsOpen reader.new }
     ensures ledgers { OnOk result (ledgers.new ≡ noted_frames ledgers.old (pushes_on link out.now.entries)) }
     ensures queue { OnOk result (queue.new
         ≡ queued queue.old (marked_frames ledgers.old mark (pushes_on link out.now.entries))) }
@@ -71,21 +71,25 @@ fn post_entry(
     ledgers: &mut Ledgers,
     queue: &mut Queue,
 ) -> Result<(), Memory>
-    requires open { IsOpen reader.old }
+    requires reader { IsOpen reader.old }
     requires counted { IsCounted (2 ^ 63) ledgers.old }
     requires queue { length queue.old ≤ room }
-    ensures open { IsOpen reader.new }
+    ensures reader { IsOpen reader.new }
     ensures ledgers { OnOk result (ledgers.new ≡ noted_frames ledgers.old (push_on link (entry_seen entry.entry))) }
     ensures queue { OnOk result (queue.new
         ≡ queued queue.old (marked_frames ledgers.old mark (push_on link (entry_seen entry.entry)))) }
     ensures few { length queue.new ≤ room }
 {
-    if let StationEntry::Push { link: on, octets } = entry {
-        if on == link {
-            return post_frame(octets, reader, mark, ledgers, queue);
+    match entry {
+        StationEntry::Push { link: on, octets } => {
+            if on == link {
+                post_frame(octets, reader, mark, ledgers, queue)
+            } else {
+                Ok(())
+            }
         }
+        StationEntry::Got { .. } | StationEntry::Hang(_) => Ok(()),
     }
-    Ok(())
 }
 
 /// Notes a frame and puts it into a queue.
@@ -96,10 +100,10 @@ fn post_frame(
     ledgers: &mut Ledgers,
     queue: &mut Queue,
 ) -> Result<(), Memory>
-    requires open { IsOpen reader.old }
+    requires reader { IsOpen reader.old }
     requires counted { IsCounted (2 ^ 63) ledgers.old }
     requires queue { length queue.old ≤ room }
-    ensures open { IsOpen reader.new }
+    ensures reader { IsOpen reader.new }
     ensures ledgers { OnOk result (ledgers.new ≡ noted_frames ledgers.old (octets.now ∷ [])) }
     ensures queue { OnOk result (queue.new ≡ queued queue.old (marked_frames ledgers.old mark (octets.now ∷ []))) }
     ensures few { length queue.new ≤ room }

@@ -1,13 +1,13 @@
 //! What is counted of the Configure-Requests of all protocols on a link.
 
 ghost use Rattle.std.specs.Prelude.{◌≡◌, ◌+◌, ◌^◌, ◌<◌, IfOk, OnOk, Some, option_map};
-ghost use Rattle.ppp_auto.specs.Packet.{Packet};
+ghost use Rattle.ppp_auto.specs.Packet as plain;
 ghost use Rattle.ppp_duet.specs.Duet.{mark_of};
 ghost use Rattle.ppp_party.specs.About.{kind_of};
 ghost use Rattle.ppp_party.specs.CarriedRead.{carried_seen};
 ghost use Rattle.ppp_party.specs.Counted.{IsCounted};
 ghost use Rattle.ppp_party.specs.Frame.{mark_by, noted_by};
-ghost use Rattle.ppp_party.specs.Heard.{heard_in, hears, ledgers_with};
+ghost use Rattle.ppp_party.specs.Heard.{heard_in, hears, ledgers_with, state_at};
 ghost use Rattle.ppp_party.specs.Ledger.{ledger_at, ledger_begun, ledgers_begun, noted};
 ghost use Rattle.ppp_party.specs.PacketRead.{packet_seen};
 ghost use Rattle.ppp_party.specs.Party.{unheard};
@@ -163,7 +163,7 @@ impl Ledgers {
 
 /// The mark of a packet of that kind: the ordinal of a Configure-Request, the mark of what an answer answers.
 fn mark_for(kind: PacketKind, sent: u64, mark: u64) -> u64
-    ensures { (p : Packet) → kind_of p ≡ kind → result ≡ mark_of sent mark p }
+    ensures { (p : plain.Packet) → kind_of p ≡ kind → result ≡ mark_of sent mark p }
 {
     match kind {
         PacketKind::Request => sent,

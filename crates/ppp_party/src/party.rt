@@ -242,8 +242,8 @@ fn put_queue(incoming: &mut Vec<Queue>, queue: Queue) -> Result<(), Memory>
 }
 
 /// Loses what is under way on all links.
-fn empty(incoming: &mut [Queue])
-    ensures { incoming.new ≡ map (λ queue. []) incoming.old }
+fn empty(incoming: &mut Vec<Queue>)
+    ensures { incoming.new.items ≡ map (λ (queue : List Frame). []) incoming.old.items }
 {
     for i in 0..incoming.len() {
         incoming[i].clear();
@@ -251,8 +251,8 @@ fn empty(incoming: &mut [Queue])
 }
 
 /// What was heard of the peer counts no longer.
-fn forget(ledgers: &mut [Ledgers])
-    ensures { ledgers.new ≡ map unheard ledgers.old }
+fn forget(ledgers: &mut Vec<Ledgers>)
+    ensures { ledgers.new.items ≡ map unheard ledgers.old.items }
 {
     for i in 0..ledgers.len() {
         ledgers[i].forget();
@@ -260,8 +260,8 @@ fn forget(ledgers: &mut [Ledgers])
 }
 
 /// Nothing was counted yet.
-fn begin(ledgers: &mut [Ledgers])
-    ensures { ledgers.new ≡ map (λ gs. ledgers_begun) ledgers.old }
+fn begin(ledgers: &mut Vec<Ledgers>)
+    ensures { ledgers.new.items ≡ map (λ gs. ledgers_begun) ledgers.old.items }
 {
     for i in 0..ledgers.len() {
         ledgers[i].begin();

@@ -2,6 +2,7 @@
 
 ghost use Rattle.std.specs.Prelude.{◌≡◌, ◌≤◌, ◌<◌, ◌↔◌, [], ◌∷◌, ◌++◌, length, IsTrue, OnOk, OnErr, MatchOption};
 ghost use Rattle.std.specs.List.{remove};
+ghost use Rattle.std.specs.Option.{option_to_list};
 ghost use Rattle.ppp_duet.specs.Duet.{without};
 ghost use Rattle.ppp_duet.specs.Span.{answers, least, requests};
 ghost use Rattle.ppp_party.specs.About.{about_of};
@@ -88,12 +89,9 @@ impl Queue {
         ensures value { self.new ≡ without place self.old }
         ensures few { length self.new ≤ room }
     {
-        if place == 0 {
-            return;
-        }
-        let i = usize::from(place) - 1;
-        if i < self.frames.len() {
-            lose_at(&mut self.frames, i);
+        let count = self.frames.len();
+        if is_place(place, count) {
+            lose_at(&mut self.frames, usize::from(place) - 1);
         }
     }
 
@@ -133,6 +131,13 @@ fn put(frames: &mut VecDeque<Frame>, frame: Frame) -> Result<(), Memory>
     ensures err { OnErr result (frames.new.items ≡ frames.old.items) }
 {
     frames.push_back(frame).map_err(|_| Memory)
+}
+
+/// Whether that is a place among so many, from 1 on.
+fn is_place(place: u16, count: usize) -> bool
+    ensures { IsTrue result ↔ ((1 ≤ place) × (place ≤ count)) }
+{
+    1 <= place && usize::from(place) <= count
 }
 
 /// Takes a frame out and drops it.
