@@ -1,14 +1,19 @@
-pub mod DownLemmas
+mod DownLemmas
 pub mod HeldLemmas
+mod HeardLemmas
 mod KeptLemmas
 mod LedgerLemmas
+mod ListLemmas
 mod LoneLemmas
 mod OrderLemmas
+pub mod PartyLemmas
 mod PostLemmas
+mod QueueLemmas
 mod ReadLemmas
 mod ReaderLemmas
 mod RebootLemmas
 pub mod SeatLemmas
+mod SendLemmas
 mod SentLemmas
 mod SpansLemmas
 mod StepLemmas

@@ -1,6 +1,10 @@
+pub mod About
 pub mod CarriedRead
+pub mod Counted
 pub mod Events
 pub mod Frame
+pub mod Happening
+pub mod Heard
 pub mod Held
 pub mod Kept
 pub mod Ledger

@@ -1,7 +1,7 @@
 -- One end of a world: a station, what is counted of its requests, and the frames under way to it, link by link; and what an
 -- event at it makes of it, and of the frames under way to the other end.
-use Rattle.std.specs.Prelude.{ℕ, zero, suc, ◌+◌, ◌-◌, ◌==◌, if◌then◌else◌, List, [], ◌∷◌, ◌++◌, length, map, take, Option, Some, None, slice_get}
-use Rattle.std.specs.List.{flat_map}
+use Rattle.std.specs.Prelude.{ℕ, zero, suc, ◌+◌, ◌-◌, ◌≡◌, ◌≤◌, ◌==◌, if◌then◌else◌, List, [], ◌∷◌, ◌++◌, length, map, take, Option, Some, None, slice_get}
+use Rattle.std.specs.List.{AllByRecursion, flat_map}
 use Rattle.ppp_auto.specs.Auto.{Auto}
 use Rattle.ppp_auto.specs.Packet.{Packet, packet_of}
 use Rattle.ppp_duet.specs.Duet.{without}
@@ -19,6 +19,22 @@ pub record Party : Type 0 where
   pub ledgers : List Ledgers
   pub incoming : List (List Frame)
 
+-- How many frames a queue holds. One that is sent into a full queue is lost.
+abbrev pub room : ℕ
+room = 1024
+
+-- as many ledgers and queues as links, and no queue too long
+pub record IsParty (e : Party) : Type 0 where
+  pub ledgers : length e.ledgers ≡ length e.links
+  pub incoming : length e.incoming ≡ length e.links
+  pub few : AllByRecursion (λ queue. length queue ≤ room) e.incoming
+
+-- the first link with a frame under way to the end, from that number on
+abbrev pub first_busy : ℕ → List (List Frame) → Option ℕ
+first_busy l [] = None
+first_busy l ([] ∷ queues) = first_busy (l + 1) queues
+first_busy l ((f ∷ rest) ∷ queues) = Some l
+
 -- ---- what goes out
 
 -- the frames that go out on a link
@@ -29,10 +45,6 @@ push_on m (Hang l) = []
 
 abbrev pub pushes_on : ℕ → List Entry → List (List ℕ)
 pushes_on m es = flat_map (push_on m) es
-
--- How many frames a queue holds. One that is sent into a full queue is lost.
-abbrev pub room : ℕ
-room = 1024
 
 abbrev pub queued : List Frame → List Frame → List Frame
 queued queue sent = take room (queue ++ sent)

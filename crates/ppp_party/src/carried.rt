@@ -10,6 +10,7 @@ use ppp_frame::{Deframer, FrameRef};
 use ppp_packet::Proto;
 
 /// A packet of a control protocol.
+#[derive(Drop)]
 pub(crate) struct Carried<'a> {
     pub(crate) proto: Proto,
     pub(crate) packet: Packet<'a>,

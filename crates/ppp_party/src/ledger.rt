@@ -56,6 +56,23 @@ impl Ledger {
         self.sent
     }
 
+    /// What was heard of the peer counts no longer.
+    pub(crate) fn forget(&mut self)
+        ensures { self.new ≡ record self.old { got = 0 } }
+    {
+        self.got = 0;
+    }
+
+    /// Is as at the beginning.
+    pub(crate) fn begin(&mut self)
+        ensures { self.new ≡ ledger_begun }
+    {
+        self.sent = 0;
+        self.last.clear();
+        self.got = 0;
+        self.against.clear();
+    }
+
     /// Notes a packet of that mark that is taken in, in that state: requests don't count in Initial and Starting.
     pub(crate) fn hear(&mut self, state: AutoState, mark: u64, packet: &Packet<'_>)
         ensures { self.new ≡ heard self.old state mark (packet_seen packet.now) }

@@ -12,8 +12,21 @@
 //! Left out: bundles, and datagrams that are sent.
 #![tactic(auto)]
 
+mod about;
 mod carried;
+mod desk;
+mod frame;
+mod happening;
 pub mod laws;
 mod ledger;
+mod ledgers;
 mod packet;
+mod party;
+mod queue;
 mod reader;
+mod states;
+
+pub use desk::Desk;
+pub use happening::Happening;
+pub use party::Party;
+pub use ppp_memory::Memory;

@@ -9,6 +9,7 @@ use ppp_packet::{Code, Options, PacketRef, read_options, read_packet};
 
 /// A packet: codes 1 to 4 with their Identifier and their options, any other with its code, its Identifier and its data
 /// (RFC 1661 section 5).
+#[derive(Drop)]
 pub(crate) enum Packet<'a> {
     Request(u8, Options<'a>),
     Ack(u8, Options<'a>),

@@ -1,0 +1,115 @@
+//! What an end works with.
+
+ghost use Rattle.std.specs.Prelude.{◌≡◌, ◌≤◌, ◌^◌, ◌∷◌, [], length, OnOk};
+ghost use Rattle.ppp_party.specs.Counted.{IsCounted};
+ghost use Rattle.ppp_party.specs.Frame.{marked_frames, noted_frames};
+ghost use Rattle.ppp_party.specs.Party.{push_on, pushes_on, queued, room};
+ghost use Rattle.ppp_party.specs.Reader.{IsOpen};
+ghost use Rattle.ppp_station.specs.StationOut.{entry_seen};
+ghost use Rattle.ppp_station.specs.declared.station_out.TheConstants.{MOST_ENTRIES};
+
+use crate::about::About;
+use crate::carried::lent_carried;
+use crate::ledgers::Ledgers;
+use crate::queue::Queue;
+use crate::reader::{make_reader, read};
+use ppp_frame::Deframer;
+use ppp_memory::Memory;
+use ppp_station::{StationEntry, StationOut};
+use std::alloc::Global;
+
+/// What one end at a time works with: the list that its station fills, and the reader of what goes out. It takes the memory
+/// for all that it holds later.
+#[derive(Drop)]
+pub struct Desk {
+    pub(crate) out: StationOut,
+    pub(crate) reader: Deframer,
+    pub(crate) ghost open: { IsOpen reader },
+}
+
+impl Desk {
+    /// A desk with nothing on it.
+    pub fn new(alloc: Global) -> Result<Desk, Memory> {
+        Ok(Desk {
+            out: StationOut::new(alloc)?,
+            reader: make_reader(alloc)?,
+        })
+    }
+}
+
+/// Notes the frames of a list that go out on a link, and puts them into a queue, behind a frame of that mark.
+pub(crate) fn post(
+    out: &StationOut,
+    reader: &mut Deframer,
+    link: u8,
+    mark: u64,
+    ledgers: &mut Ledgers,
+    queue: &mut Queue,
+) -> Result<(), Memory>
+    requires reader { IsOpen reader.old }
+    requires few { length out.now.entries ≤ MOST_ENTRIES }
+    requires counted { IsCounted (2 ^ 62) ledgers.old }
+    requires queue { length queue.old ≤ room }
+    ensures reader { IsOpen reader.new }
+    ensures ledgers { OnOk result (ledgers.new ≡ noted_frames ledgers.old (pushes_on link out.now.entries)) }
+    ensures queue { OnOk result (queue.new
+        ≡ queued queue.old (marked_frames ledgers.old mark (pushes_on link out.now.entries))) }
+    ensures few { length queue.new ≤ room }
+{
+    for i in 0..out.count() {
+        post_entry(out.at(i), reader, link, mark, ledgers, queue)?;
+    }
+    Ok(())
+}
+
+/// Notes an entry and puts it into a queue, if it is a frame that goes out on that link.
+fn post_entry(
+    entry: StationEntry<'_>,
+    reader: &mut Deframer,
+    link: u8,
+    mark: u64,
+    ledgers: &mut Ledgers,
+    queue: &mut Queue,
+) -> Result<(), Memory>
+    requires reader { IsOpen reader.old }
+    requires counted { IsCounted (2 ^ 63) ledgers.old }
+    requires queue { length queue.old ≤ room }
+    ensures reader { IsOpen reader.new }
+    ensures ledgers { OnOk result (ledgers.new ≡ noted_frames ledgers.old (push_on link (entry_seen entry.entry))) }
+    ensures queue { OnOk result (queue.new
+        ≡ queued queue.old (marked_frames ledgers.old mark (push_on link (entry_seen entry.entry)))) }
+    ensures few { length queue.new ≤ room }
+{
+    match entry {
+        StationEntry::Push { link: on, octets } => {
+            if on == link {
+                post_frame(octets, reader, mark, ledgers, queue)
+            } else {
+                Ok(())
+            }
+        }
+        StationEntry::Got { .. } | StationEntry::Hang(_) => Ok(()),
+    }
+}
+
+/// Notes a frame and puts it into a queue.
+fn post_frame(
+    octets: &[u8],
+    reader: &mut Deframer,
+    mark: u64,
+    ledgers: &mut Ledgers,
+    queue: &mut Queue,
+) -> Result<(), Memory>
+    requires reader { IsOpen reader.old }
+    requires counted { IsCounted (2 ^ 63) ledgers.old }
+    requires queue { length queue.old ≤ room }
+    ensures reader { IsOpen reader.new }
+    ensures ledgers { OnOk result (ledgers.new ≡ noted_frames ledgers.old (octets.now ∷ [])) }
+    ensures queue { OnOk result (queue.new ≡ queued queue.old (marked_frames ledgers.old mark (octets.now ∷ []))) }
+    ensures few { length queue.new ≤ room }
+{
+    read(reader, octets);
+    let carried = lent_carried(reader);
+    let mark = ledgers.post(mark, &carried)?;
+    queue.send(mark, About::of(&carried), octets)
+}

@@ -1,0 +1,269 @@
+//! One end of a world.
+
+ghost use Rattle.std.specs.Prelude.{◌≡◌, ◌+◌, ◌*◌, ◌-◌, ◌^◌, ◌≤◌, ◌∷◌, ◌++◌, [], ℕ, List, length, map, IfOk, OnOk, Some, slice_get};
+ghost use Rattle.ppp_conf.specs.EndConfig.{end_seen};
+ghost use Rattle.ppp_party.specs.Counted.{AreCounted};
+ghost use Rattle.ppp_party.specs.Frame.{Frame};
+ghost use Rattle.ppp_party.specs.Happening.{happening_seen};
+ghost use Rattle.ppp_party.specs.Ledger.{ledgers_begun};
+ghost use Rattle.ppp_party.specs.Party as spec;
+ghost use Rattle.ppp_party.specs.Party.{at_link, cleared, delivers, downs, first_busy, happens, loses, party_begun, reboots, unheard};
+ghost use Rattle.ppp_party.specs.Spans.{oldest_on, sent_on};
+ghost use Rattle.ppp_station.specs.Station.{link_ready, on_link, BeginsBy, IsOfLink};
+ghost use Rattle.ppp_station.specs.StationOut.{AreShort};
+ghost use Rattle.ppp_station.specs.Steps.{Takes};
+ghost use Rattle.ppp_station.specs.declared.station_out.TheConstants.{MOST_ENTRIES};
+
+use crate::carried::lent_carried;
+use crate::desk::{Desk, post};
+use crate::happening::{Happening, happen_at};
+use crate::ledgers::Ledgers;
+use crate::queue::Queue;
+use crate::states::States;
+use ppp_conf::EndConfig;
+use ppp_memory::Memory;
+use ppp_packet::Proto;
+use ppp_station::{Station, StationEvent};
+use std::alloc::Global;
+use std::marker::Model;
+
+/// One end of a world: a station, what is counted of its requests, and the frames under way to it, link by link.
+#[derive(Drop)]
+pub struct Party {
+    station: Station,
+    ledgers: Vec<Ledgers>,
+    incoming: Vec<Queue>,
+}
+
+impl Model for Party {
+    ghost use Rattle.ppp_party.specs.Party as spec;
+
+    ghost Value = { spec.Party };
+
+    ghost view = { λ p. record { links = p.station; ledgers = p.ledgers.items; incoming = p.incoming.items } };
+
+    ghost invariant = { λ p. spec.IsParty (record { links = p.station; ledgers = p.ledgers.items; incoming = p.incoming.items }) };
+}
+
+impl Party {
+    /// An end of these settings as it begins.
+    pub fn new(alloc: Global, config: &EndConfig) -> Result<Party, Memory>
+        ensures begins { IfOk result (λ p. BeginsBy (end_seen config.now) p.links) }
+        ensures begun { IfOk result (λ p. p ≡ party_begun p.links) }
+    {
+        let station = Station::new(alloc, config)?;
+        let mut ledgers = Vec::new(alloc);
+        let mut incoming = Vec::new(alloc);
+        for _ in 0..station.links() {
+            put_ledgers(&mut ledgers, Ledgers::new(alloc))?;
+            put_queue(&mut incoming, Queue::new(alloc))?;
+        }
+        Ok(Party {
+            station,
+            ledgers,
+            incoming,
+        })
+    }
+
+    /// Its station.
+    pub fn station(&self) -> &Station
+        ensures { result.now ≡ self.now.links }
+    {
+        &self.station
+    }
+
+    /// The ordinal of the last Configure-Request of a protocol that it sent on a link, 0 before the first.
+    pub fn sent(&self, link: u8, proto: Proto) -> u64
+        requires { IsOfLink (length self.now.links) link }
+        ensures { result ≡ sent_on link proto self.now }
+    {
+        self.ledgers[usize::from(link) - 1].sent(proto)
+    }
+
+    /// The least ordinal of a request of this end that is under way itself, or whose answer is; the last one's, if none is.
+    pub fn oldest(&self, other: &Party, link: u8, proto: Proto) -> u64
+        requires own { IsOfLink (length self.now.links) link }
+        requires other { IsOfLink (length other.now.links) link }
+        ensures { result ≡ oldest_on link proto (record { own = self.now; other = other.now }) }
+    {
+        let i = usize::from(link) - 1;
+        let answered = self.incoming[i].oldest_answer(proto, self.sent(link, proto));
+        other.incoming[i].oldest_request(proto, answered)
+    }
+
+    /// The first link with a frame under way to the end.
+    pub fn first_busy(&self) -> Option<u8>
+        ensures { result ≡ first_busy 1 self.now.incoming }
+    {
+        for i in 0..self.station.links() {
+            if !self.incoming[usize::from(i)].is_empty() {
+                return Some(i + 1);
+            }
+        }
+        None
+    }
+
+    /// Something happens at a link of the end. What it sends is noted, and goes to the other.
+    pub fn happen(
+        &mut self,
+        other: &mut Party,
+        desk: &mut Desk,
+        what: Happening,
+        link: u8,
+        word: u64,
+    ) -> Result<(), Memory>
+        requires link { IsOfLink (length self.old.links) link }
+        requires alike { length other.old.links ≡ length self.old.links }
+        requires few { AreCounted (2 ^ 62) self.old }
+        ensures done { OnOk result (record { own = self.new; other = other.new }
+            ≡ happens (happening_seen what) link word (record { own = self.old; other = other.old })) }
+        ensures short { AreShort (on_link (happening_seen what) link self.old.links word).out.entries }
+        ensures counted { (n : ℕ) → AreCounted n self.old → OnOk result (AreCounted (n + MOST_ENTRIES) self.new) }
+    {
+        let i = usize::from(link) - 1;
+        happen_at(&mut self.station, what, link, word, &mut desk.out);
+        post(
+            &desk.out,
+            &mut desk.reader,
+            link,
+            0,
+            &mut self.ledgers[i],
+            &mut other.incoming[i],
+        )
+    }
+
+    /// The front frame under way to the end on a link is given to the station, if there is one. What it sends is noted, and
+    /// goes to the other.
+    pub fn deliver(
+        &mut self,
+        other: &mut Party,
+        desk: &mut Desk,
+        link: u8,
+        word: u64,
+    ) -> Result<(), Memory>
+        requires link { IsOfLink (length self.old.links) link }
+        requires alike { length other.old.links ≡ length self.old.links }
+        requires few { AreCounted (2 ^ 62) self.old }
+        ensures done { OnOk result (record { own = self.new; other = other.new }
+            ≡ delivers link word (record { own = self.old; other = other.old })) }
+        ensures short { (f : Frame) (rest : List Frame) → slice_get self.old.incoming (link - 1) ≡ Some (f ∷ rest)
+            → AreShort (on_link (Takes f.octets) link self.old.links word).out.entries }
+        ensures counted { (n : ℕ) → AreCounted n self.old → OnOk result (AreCounted (n + MOST_ENTRIES) self.new) }
+    {
+        let i = usize::from(link) - 1;
+        let Some(frame) = self.incoming[i].pop() else {
+            return Ok(());
+        };
+        let states = States::of(self.station.link(link));
+        self.station.event(
+            StationEvent::Bytes(link, frame.octets()),
+            word,
+            &mut desk.out,
+        );
+        let lent = lent_carried(self.station.link(link).deframer());
+        self.ledgers[i].hear(&states, frame.mark(), &lent);
+        post(
+            &desk.out,
+            &mut desk.reader,
+            link,
+            frame.mark(),
+            &mut self.ledgers[i],
+            &mut other.incoming[i],
+        )
+    }
+
+    /// The frame of that place under way to the end on a link is lost, from 1 on, if there is one.
+    pub fn lose(&mut self, link: u8, place: u16)
+        requires { IsOfLink (length self.old.links) link }
+        ensures { (o : spec.Party) → record { own = self.new; other = o }
+            ≡ loses link place (record { own = self.old; other = o }) }
+    {
+        self.incoming[usize::from(link) - 1].lose(place);
+    }
+
+    /// The end begins anew, and the other sees its lines go down. What is under way both ways is lost.
+    pub fn reboot(&mut self, other: &mut Party, desk: &mut Desk, word: u64) -> Result<(), Memory>
+        requires alike { length other.old.links ≡ length self.old.links }
+        requires few { AreCounted (2 ^ 61) other.old }
+        ensures done { OnOk result (record { own = self.new; other = other.new }
+            ≡ reboots word (record { own = self.old; other = other.old })) }
+        ensures counted { AreCounted 0 self.new }
+        ensures others { (n : ℕ) → AreCounted n other.old → OnOk result (AreCounted (n + 16 * MOST_ENTRIES) other.new) }
+    {
+        self.station.event(StationEvent::Reset, word, &mut desk.out);
+        self.begin();
+        other.clear();
+        other.go_down(self, desk, word)
+    }
+
+    /// Nothing was counted yet, and nothing is under way to the end.
+    fn begin(&mut self)
+        ensures { self.new ≡ party_begun self.old.links }
+    {
+        begin(&mut self.ledgers);
+        empty(&mut self.incoming);
+    }
+
+    /// What was heard of the peer counts no longer, and nothing is under way to the end.
+    fn clear(&mut self)
+        ensures { self.new ≡ cleared self.old }
+    {
+        forget(&mut self.ledgers);
+        empty(&mut self.incoming);
+    }
+
+    /// All lines go down, one after the other.
+    fn go_down(&mut self, other: &mut Party, desk: &mut Desk, word: u64) -> Result<(), Memory>
+        requires alike { length other.old.links ≡ length self.old.links }
+        requires few { AreCounted (2 ^ 61) self.old }
+        ensures done { OnOk result (record { own = self.new; other = other.new }
+            ≡ downs (length self.old.links) 1 word (record { own = self.old; other = other.old })) }
+        ensures counted { (n : ℕ) → AreCounted n self.old → OnOk result (AreCounted (n + 16 * MOST_ENTRIES) self.new) }
+    {
+        for i in 0..self.station.links() {
+            self.happen(other, desk, Happening::LineDown, i + 1, word)?;
+        }
+        Ok(())
+    }
+}
+
+/// Puts ledgers behind others.
+fn put_ledgers(ledgers: &mut Vec<Ledgers>, one: Ledgers) -> Result<(), Memory>
+    ensures { OnOk result (ledgers.new.items ≡ ledgers.old.items ++ one ∷ []) }
+{
+    ledgers.push(one).map_err(|_| Memory)
+}
+
+/// Puts a queue behind others.
+fn put_queue(incoming: &mut Vec<Queue>, queue: Queue) -> Result<(), Memory>
+    ensures { OnOk result (incoming.new.items ≡ incoming.old.items ++ queue ∷ []) }
+{
+    incoming.push(queue).map_err(|_| Memory)
+}
+
+/// Loses what is under way on all links.
+fn empty(incoming: &mut Vec<Queue>)
+    ensures { incoming.new.items ≡ map (λ (queue : List Frame). []) incoming.old.items }
+{
+    for i in 0..incoming.len() {
+        incoming[i].clear();
+    }
+}
+
+/// What was heard of the peer counts no longer.
+fn forget(ledgers: &mut Vec<Ledgers>)
+    ensures { ledgers.new.items ≡ map unheard ledgers.old.items }
+{
+    for i in 0..ledgers.len() {
+        ledgers[i].forget();
+    }
+}
+
+/// Nothing was counted yet.
+fn begin(ledgers: &mut Vec<Ledgers>)
+    ensures { ledgers.new.items ≡ map (λ gs. ledgers_begun) ledgers.old.items }
+{
+    for i in 0..ledgers.len() {
+        ledgers[i].begin();
+    }
+}
