@@ -12,6 +12,7 @@ mod QueueLemmas
 mod ReadLemmas
 mod ReaderLemmas
 mod RebootLemmas
+mod ResultLemmas
 pub mod SeatLemmas
 mod SendLemmas
 mod SentLemmas

@@ -1,9 +1,9 @@
-pub mod AgreeOnLemmas
+pub mod AgreementLemmas
 pub mod DecidedLemmas
 pub mod DifferenceLemmas
 pub mod ReplayLemmas
 pub mod RunLemmas
-pub mod ShowBlockLemmas
+pub mod ReportLemmas
 pub mod SoundLemmas
 pub mod WidthLemmas
 pub mod WorldLemmas

@@ -34,7 +34,7 @@ use Rattle.ppp_world.specs.World.{BothBegin, IsSound, most_a_step}
 use Rattle.ppp_world.specs.declared.span.Ordinals.{Ordinals}
 use Rattle.ppp_world.specs.declared.step.Step.{Step}
 use Rattle.ppp_world.specs.declared.step.Step.TheVariants.{Happens, Delivers, Loses, Reboots, Reports, Rests}
-use Rattle.ppp_world.proofs.AgreeOnLemmas.{agrees-nowhere, agrees-on}
+use Rattle.ppp_world.proofs.AgreementLemmas.{agrees-nowhere, agrees-on}
 use Rattle.ppp_world.proofs.WidthLemmas.{AllNarrow, all-narrow, none-outstanding, there-only}
 
 -- ---- the ends turned

@@ -1,4 +1,4 @@
-pub mod AgreeOn
+pub mod Agreement
 pub mod Decided
 pub mod Difference
 pub mod Ordinals
@@ -7,6 +7,5 @@ pub mod Refusal
 pub mod Replay
 pub mod Report
 pub mod Run
-pub mod ShowBlock
 pub mod Step
 pub mod World

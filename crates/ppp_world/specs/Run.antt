@@ -5,9 +5,9 @@ use Rattle.ppp_party.specs.Party.{Ends, ends_begun}
 use Rattle.ppp_script.specs.declared.event.Event.{Event}
 use Rattle.ppp_station.specs.StationOut.{Entry}
 use Rattle.ppp_packet.specs.declared.proto.Proto.{Proto}
-use Rattle.ppp_world.specs.AgreeOn.{AgreesOn}
+use Rattle.ppp_world.specs.Agreement.{AgreesOn}
 use Rattle.ppp_world.specs.Outstanding.{outstanding_in}
-use Rattle.ppp_world.specs.ShowBlock.{told_block}
+use Rattle.ppp_world.specs.Report.{told_block}
 use Rattle.ppp_world.specs.Step.{step_of, settling, next_delivery, entries_made, moved}
 use Rattle.ppp_world.specs.declared.outstanding.Outstanding.{Outstanding}
 use Rattle.ppp_world.specs.declared.refusal.Refusal.{Refusal}

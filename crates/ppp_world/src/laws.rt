@@ -13,7 +13,7 @@ ghost use Rattle.ppp_ncp.specs.declared.ipv6_table.TheConstants.{IDENTIFIER};
 ghost use Rattle.ppp_options.specs.Rules.{Allows, Sendable};
 ghost use Rattle.ppp_link.specs.LinkTables.{LinkTables, lcp_table, table_of};
 ghost use Rattle.ppp_packet.specs.declared.proto.Proto.{Proto};
-ghost use Rattle.ppp_world.specs.AgreeOn.{Fits, rules_of};
+ghost use Rattle.ppp_world.specs.Agreement.{Fits, rules_of};
 ghost use Rattle.ppp_world.specs.Decided.{SettingsDecide};
 ghost use Rattle.ppp_world.specs.Difference.{Difference, BothHaveNumbers, OneFavoured};
 

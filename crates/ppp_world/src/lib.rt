@@ -9,12 +9,12 @@
 //! [`laws`] has what holds of two ends with the shipped tables in every run.
 #![tactic(auto)]
 
-mod agree_on;
+mod agreement;
 pub mod laws;
 mod outstanding;
 mod refusal;
 mod replayed;
-mod show_block;
+mod report;
 mod span;
 mod step;
 mod two_ends;

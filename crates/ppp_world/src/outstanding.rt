@@ -7,6 +7,16 @@ use ppp_packet::Proto;
 use ppp_script::End;
 use std::fmt;
 
+/// The protocols in order.
+pub(crate) const PROTOCOLS: [Proto; 6] = [
+    Proto::Lcp,
+    Proto::Ip,
+    Proto::Ipv6,
+    Proto::Osi,
+    Proto::Mpls,
+    Proto::Bacp,
+];
+
 /// An end's Configure-Requests of which something is under way span more than 255 ordinals. It prints as
 /// `end E link L P sent S oldest O`, with the protocol's name as P.
 #[derive(Clone, Copy, Debug, PartialEq, Eq)]

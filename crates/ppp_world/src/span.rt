@@ -7,7 +7,7 @@ ghost use Rattle.ppp_world.specs.Ordinals.{AreOrdinals, AreOrdinalsFor, MayWiden
 ghost use Rattle.ppp_world.specs.Outstanding.{or_else, outstanding_from, outstanding_in, outstanding_on, outstanding_on_link};
 ghost use Rattle.ppp_world.specs.Step.{IsLinked};
 
-use crate::outstanding::Outstanding;
+use crate::outstanding::{Outstanding, PROTOCOLS};
 use crate::step::Step;
 use crate::two_ends::TwoEnds;
 use ppp_packet::Proto;
@@ -16,16 +16,6 @@ use ppp_script::End;
 
 /// The widest span: an Identifier of 8 bits tells that many requests apart.
 const WIDEST: u64 = 255;
-
-/// The protocols in order.
-const PROTOCOLS: [Proto; 6] = [
-    Proto::Lcp,
-    Proto::Ip,
-    Proto::Ipv6,
-    Proto::Osi,
-    Proto::Mpls,
-    Proto::Bacp,
-];
 
 /// The ordinals of the last Configure-Request of each protocol, at an end on a link.
 #[derive(Clone, Copy)]

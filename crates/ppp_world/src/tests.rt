@@ -3,7 +3,7 @@
 ghost use Rattle.std.specs.Prelude.{IsTrue};
 ghost use Rattle.ppp_station.specs.Station.{IsOfLinks};
 
-use crate::show_block::write_show;
+use crate::report::write_show;
 use ppp_conf::{EndConfig, read_config};
 use ppp_packet::Proto;
 use ppp_station::{Station, StationEntry, StationEvent, StationOut};

@@ -5,13 +5,13 @@ ghost use Rattle.std.specs.String.{string_bytes};
 ghost use Rattle.ppp_conf.specs.Config.{config_seen};
 ghost use Rattle.ppp_script.specs.Event.{steps_in};
 ghost use Rattle.ppp_script.specs.declared.script.TheConstants.{MOST_STEPS};
-ghost use Rattle.ppp_world.specs.AgreeOn.{agree_on, AreOpenedOn};
+ghost use Rattle.ppp_world.specs.Agreement.{agree_on, AreOpenedOn};
 ghost use Rattle.ppp_world.specs.Run.{before_refusal, deliveries, moments_of, shown_at, AgreeEverywhere, AgreeThroughout};
 ghost use Rattle.ppp_world.specs.Step.{next_delivery, IsLinked};
 ghost use Rattle.ppp_world.specs.World.{answer_of, does_step, fault_in, place_of, settled, world_after, world_of, IsBegun, IsSound, UnlessMemory};
 
-use crate::agree_on::agree;
-use crate::show_block::write_show;
+use crate::agreement::agree;
+use crate::report::write_show;
 use crate::span::{Ordinals, wider_since};
 use crate::step::{Step, settling};
 use crate::two_ends::TwoEnds;

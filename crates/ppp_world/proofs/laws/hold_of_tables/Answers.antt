@@ -1,4 +1,4 @@
-use Rattle.ppp_world.proofs.AgreeOnLemmas.{tables-agreement, tables-reopening}
+use Rattle.ppp_world.proofs.AgreementLemmas.{tables-agreement, tables-reopening}
 use Rattle.ppp_world.proofs.laws.hold_of_tables.Goals as goal
 
 pub returns-clause-agreement : goal.returns-clause-agreement

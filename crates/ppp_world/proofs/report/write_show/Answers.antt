@@ -1,6 +1,6 @@
-use Rattle.ppp_world.specs.AgreeOn.{opened_on}
-use Rattle.ppp_world.proofs.ShowBlockLemmas.{link_more}
-use Rattle.ppp_world.proofs.show_block.write_show.Goals as goal
+use Rattle.ppp_world.specs.Agreement.{opened_on}
+use Rattle.ppp_world.proofs.ReportLemmas.{link_more}
+use Rattle.ppp_world.proofs.report.write_show.Goals as goal
 
 pub loop-i-preserved : goal.loop-i-preserved
 loop-i-preserved c =

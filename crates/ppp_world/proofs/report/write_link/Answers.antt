@@ -1,8 +1,8 @@
-use Rattle.ppp_world.specs.AgreeOn.{opened_on}
-use Rattle.ppp_world.specs.ShowBlock.{line_on}
-use Rattle.ppp_world.proofs.ShowBlockLemmas.{proto_all, proto_more}
+use Rattle.ppp_world.specs.Agreement.{opened_on}
+use Rattle.ppp_world.specs.Report.{line_on}
+use Rattle.ppp_world.proofs.ReportLemmas.{proto_all, proto_more}
 use Rattle.std.proofs.Common.{arith}
-use Rattle.ppp_world.proofs.show_block.write_link.Goals as goal
+use Rattle.ppp_world.proofs.report.write_link.Goals as goal
 
 pub loop-i-preserved : goal.loop-i-preserved
 loop-i-preserved c =

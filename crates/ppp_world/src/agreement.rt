@@ -2,7 +2,7 @@
 
 ghost use Rattle.std.specs.Prelude.{◌≡◌, length, Some};
 ghost use Rattle.ppp_station.specs.Station.{IsOfLink};
-ghost use Rattle.ppp_world.specs.AgreeOn.{link_on, opened_on, state_on};
+ghost use Rattle.ppp_world.specs.Agreement.{link_on, opened_on, state_on};
 
 use ppp_auto::AutoState;
 use ppp_link::Link;
@@ -32,7 +32,7 @@ fn state(station: &Station, link: u8, proto: Proto) -> Option<AutoState>
 }
 
 /// The link of a station of that number.
-#[tactic(auto, using(crate::proofs::AgreeOnLemmas::link_there))]
+#[tactic(auto, using(crate::proofs::AgreementLemmas::link_there))]
 pub(crate) fn link_of(station: &Station, link: u8) -> &Link
     requires { IsOfLink (length station.now) link }
     ensures { link_on link station.now ≡ Some result.now }

@@ -4,16 +4,17 @@ use Rattle.std.specs.List.{flat_map}
 use Rattle.std.proofs.lemmas.List.{flat_map_more, take_more}
 use Rattle.ppp_packet.specs.declared.proto.Proto.{Proto}
 use Rattle.ppp_link.specs.Link.{Link}
-use Rattle.ppp_world.specs.ShowBlock.{Told, line_on, lines_of, link_lines, protos}
+use Rattle.ppp_world.specs.Outstanding.{protocols}
+use Rattle.ppp_world.specs.Report.{Told, line_on, lines_of, link_lines}
 
 -- one line more of a link
-pub proto_more : (f : Proto → List ℕ) (i : ℕ) (d : Proto) (begun before after : List ℕ) → i < 6 → before ≡ begun ++ flat_map f (take i protos) →
-    after ≡ before ++ f (get_or protos i d) → after ≡ begun ++ flat_map f (take (i + 1) protos)
+pub proto_more : (f : Proto → List ℕ) (i : ℕ) (d : Proto) (begun before after : List ℕ) → i < 6 → before ≡ begun ++ flat_map f (take i protocols) →
+    after ≡ before ++ f (get_or protocols i d) → after ≡ begun ++ flat_map f (take (i + 1) protocols)
 proto_more f i d begun before after few is more =
-    more ∙ ap (λ x. x ++ f (get_or protos i d)) is ∙ flat_map_more f begun (take i protos) (get_or protos i d) ∙ ap (λ ps. begun ++ flat_map f ps) (sym (take_more protos i d few))
+    more ∙ ap (λ x. x ++ f (get_or protocols i d)) is ∙ flat_map_more f begun (take i protocols) (get_or protocols i d) ∙ ap (λ ps. begun ++ flat_map f ps) (sym (take_more protocols i d few))
 
 -- all of them
-pub proto_all : (told : Told) (i m : ℕ) (own other : List Link) (begun after : List ℕ) → i ≡ 6 → after ≡ begun ++ flat_map (line_on told m own other) (take i protos) →
+pub proto_all : (told : Told) (i m : ℕ) (own other : List Link) (begun after : List ℕ) → i ≡ 6 → after ≡ begun ++ flat_map (line_on told m own other) (take i protocols) →
     after ≡ begun ++ link_lines told m own other
 unfolding link_lines
 proto_all told i m own other begun after same is = rw same at is

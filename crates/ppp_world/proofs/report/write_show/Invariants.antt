@@ -1,8 +1,8 @@
 use Rattle.std.proofs.Common.{◌≡◌, ◌++◌}
 use Rattle.std.specs.String.{string_bytes}
-use Rattle.ppp_world.specs.AgreeOn.{opened_on}
-use Rattle.ppp_world.specs.ShowBlock.{lines_of}
-use Rattle.ppp_world.proofs.show_block.write_show.Given as goal
+use Rattle.ppp_world.specs.Agreement.{opened_on}
+use Rattle.ppp_world.specs.Report.{lines_of}
+use Rattle.ppp_world.proofs.report.write_show.Given as goal
 
 abbrev pub invariant-loop-i : goal.invariant-loop-i
 invariant-loop-i l =

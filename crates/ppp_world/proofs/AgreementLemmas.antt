@@ -55,8 +55,8 @@ use Rattle.ppp_party.specs.Ledger.{Ledger, end_of, ledger_at}
 use Rattle.ppp_party.specs.Party.{Ends, Party, turned}
 use Rattle.ppp_party.specs.Seat.{Seat, SeatAt}
 use Rattle.ppp_party.specs.Spans.{ledger_on, queue_on}
-use Rattle.ppp_world.specs.AgreeOn.{AgreeBy, AgreeOn, AgreesOn, AreOpenedOn, Fits, agree_of, agree_on, auto_on, duet_on, duet_with, end_on, fits, is_opened_if, link_on, opened_on, passes, rules_if, rules_of, rules_on, state_on}
-use Rattle.ppp_world.specs.ShowBlock.{Told, line_on, link_lines, lines_of, show_block, told_block}
+use Rattle.ppp_world.specs.Agreement.{AgreeBy, AgreeOn, AgreesOn, AreOpenedOn, Fits, agree_of, agree_on, auto_on, duet_on, duet_with, end_on, fits, is_opened_if, link_on, opened_on, passes, rules_if, rules_of, rules_on, state_on}
+use Rattle.ppp_world.specs.Report.{Told, line_on, link_lines, lines_of, show_block, told_block}
 
 -- ---- equal lists pass the test for it
 

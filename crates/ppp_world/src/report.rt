@@ -4,11 +4,11 @@ ghost use Rattle.std.specs.Prelude.{◌≡◌, ◌++◌, length, OnOk, Some, is_
 ghost use Rattle.std.specs.String.{string_bytes};
 ghost use Rattle.ppp_link.specs.Automata.{auto_at};
 ghost use Rattle.ppp_station.specs.Station.{IsOfLink};
-ghost use Rattle.ppp_world.specs.AgreeOn.{opened_on};
-ghost use Rattle.ppp_world.specs.Report.{agree_text, list_text};
-ghost use Rattle.ppp_world.specs.ShowBlock.{both_states, granted_text, line, line_on, link_lines, show_block, state_text, terms_text};
+ghost use Rattle.ppp_world.specs.Agreement.{opened_on};
+ghost use Rattle.ppp_world.specs.Report.{agree_text, list_text, both_states, granted_text, line, line_on, link_lines, show_block, state_text, terms_text};
 
-use crate::agree_on::{agree, link_of};
+use crate::agreement::{agree, link_of};
+use crate::outstanding::PROTOCOLS;
 use ppp_auto::AutoState;
 use ppp_link::Link;
 use ppp_memory::Memory;
@@ -16,16 +16,6 @@ use ppp_packet::{OptList, Proto};
 use ppp_station::Station;
 use ppp_text::HexText;
 use std::fmt;
-
-/// The protocols of a link in their order.
-const PROTOS: [Proto; 6] = [
-    Proto::Lcp,
-    Proto::Ip,
-    Proto::Ipv6,
-    Proto::Osi,
-    Proto::Mpls,
-    Proto::Bacp,
-];
 
 /// Writes the block of a `show` at a step, of two ends with the same number of links.
 pub(crate) fn write_show(
@@ -52,8 +42,8 @@ fn write_link(report: &mut String, link: u8, a: &Station, b: &Station) -> Result
     ensures { OnOk result (string_bytes report.new ≡ string_bytes report.old
         ++ link_lines (λ m p. opened_on m p a.now b.now) link a.now b.now) }
 {
-    for i in 0..PROTOS.len() {
-        write_proto(report, link, PROTOS[i], a, b)?;
+    for i in 0..PROTOCOLS.len() {
+        write_proto(report, link, PROTOCOLS[i], a, b)?;
     }
     Ok(())
 }
@@ -135,7 +125,7 @@ struct BothStates {
 impl fmt::Display for BothStates {
     ghost output = { λ s. Some (both_states s.a s.b) };
 
-    #[tactic(auto, unfolding(crate::specs::ShowBlock::both_states))]
+    #[tactic(auto, unfolding(crate::specs::Report::both_states))]
     fn fmt<W: fmt::Write>(&self, f: &mut fmt::Formatter<W>) -> fmt::Result {
         let a = OneState { state: self.a };
         let b = OneState { state: self.b };
@@ -173,7 +163,7 @@ impl fmt::Display for Terms<'_> {
     ghost output = { λ t. Some (terms_text (auto_at t.a.now.automata t.proto)
         (auto_at t.b.now.automata t.proto) t.agree) };
 
-    #[tactic(auto, unfolding(crate::specs::ShowBlock::terms_text))]
+    #[tactic(auto, unfolding(crate::specs::Report::terms_text))]
     fn fmt<W: fmt::Write>(&self, f: &mut fmt::Formatter<W>) -> fmt::Result {
         let a = Granted {
             proto: self.proto,
@@ -198,7 +188,7 @@ struct Granted<'a> {
 impl fmt::Display for Granted<'_> {
     ghost output = { λ g. Some (granted_text (auto_at g.link.now.automata g.proto)) };
 
-    #[tactic(auto, unfolding(crate::specs::ShowBlock::granted_text))]
+    #[tactic(auto, unfolding(crate::specs::Report::granted_text))]
     fn fmt<W: fmt::Write>(&self, f: &mut fmt::Formatter<W>) -> fmt::Result {
         let mine = OneList {
             list: self.link.mine(self.proto),

@@ -113,7 +113,7 @@ abbrev pub agree_on : ℕ → Proto → Ends → Option Bool
 agree_on m p e = option_and_then (agree_of p (rules_on m p e.own.links) (rules_on m p e.other.links)) (duet_on m p e)
 
 -- The same without the tests, from the links alone: Some true where both are Opened. Wherever `agree_on` isn't Some false, the
--- two are the same (proofs/AgreeOnLemmas, `told-opened`).
+-- two are the same (proofs/AgreementLemmas, `told-opened`).
 abbrev pub is_opened_if : Option AutoState → Bool
 is_opened_if None = false
 is_opened_if (Some s) = is_opened s
