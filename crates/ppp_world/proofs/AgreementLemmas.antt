@@ -1,9 +1,10 @@
 -- Two Opened ends of a protocol on a link of a world agree, and a report says so.
-use Rattle.std.proofs.Common.{inl, inr, ◌≡◌, ◌↔◌, ℕ, zero, suc, ◌+◌, ◌-◌, ◌≤◌, Bool, true, false, ◌&&◌, List, [], ◌∷◌, ◌++◌, length, refl, sym, ap, subst, ◌∙◌, arith}
+use Rattle.std.proofs.Common.{inl, inr, ◌≡◌, ◌↔◌, ◌⊎◌, ◌<◌, ℕ, zero, suc, ◌-◌, ◌≤◌, Bool, true, false, ◌&&◌, List, [], ◌∷◌, length, refl, sym, ap, subst, ◌∙◌, arith}
 use Rattle.std.specs.Prelude.{◌≢◌, Option, Some, None, IsNone, option_map, slice_get}
 use Rattle.std.specs.Bool.{then_some}
 use Rattle.std.specs.Option.{option_and_then}
 use Rattle.std.proofs.lemmas.Bool.Decides.{nat_tests}
+use Rattle.std.proofs.lemmas.Option.{slice_get_past}
 use Rattle.std.proofs.lemmas.Slice.Eq.{bytes_eq-Decides}
 use Rattle.ppp_packet.specs.ConfigOption.{ConfigOption}
 use Rattle.ppp_packet.specs.declared.proto.Proto.{Proto}
@@ -55,8 +56,8 @@ use Rattle.ppp_party.specs.Ledger.{Ledger, end_of, ledger_at}
 use Rattle.ppp_party.specs.Party.{Ends, Party, turned}
 use Rattle.ppp_party.specs.Seat.{Seat, SeatAt}
 use Rattle.ppp_party.specs.Spans.{ledger_on, queue_on}
-use Rattle.ppp_world.specs.Agreement.{AgreeBy, AgreeOn, AgreesOn, AreOpenedOn, Fits, agree_of, agree_on, auto_on, duet_on, duet_with, end_on, fits, is_opened_if, link_on, opened_on, passes, rules_if, rules_of, rules_on, state_on}
-use Rattle.ppp_world.specs.Report.{Told, line_on, link_lines, lines_of, show_block, told_block}
+use Rattle.ppp_world.specs.Agreement.{AgreeBy, AgreesOn, AreOpenedOn, Fits, agree_of, agree_on, auto_on, duet_on, duet_with, end_on, fits, is_opened_if, link_on, opened_on, passes, rules_if, rules_of, rules_on, state_on}
+use Rattle.ppp_world.specs.Report.{Told, link_lines, lines_of, show_block, told_block}
 
 -- ---- equal lists pass the test for it
 
@@ -220,10 +221,10 @@ kept-agrees sa sb p m e low k =
     let agree = tables-agree p k.own.link.tables k.other.link.tables sa sb d k.own_seated.end.spoken.table k.other_seated.end.spoken.table k.reached in
     record {
       agree = λ opened. record {
-          duet = d;
-          there = there;
-          agree = rw (rs, ts) (agree (state-is m p e.own.links k.own_auto own.auto opened.own) (state-is m p e.other.links k.other_auto other.auto opened.other));
-        };
+        duet = d;
+        there = there;
+        agree = rw (rs, ts) (agree (state-is m p e.own.links k.own_auto own.auto opened.own) (state-is m p e.other.links k.other_auto other.auto opened.other));
+      };
       told = rw (there, rs, ts) (agree-not_false p (rules_of k.own.link.tables p) (rules_of k.other.link.tables p) d agree);
     }
 
@@ -270,6 +271,18 @@ agrees-on m p e low held = elim held [
   | inr (inl lone) ↦ other-absent m p e (lone-absent m p e low lone)
   | inr (inr lone) ↦ own-absent m p e (lone-absent m p (turned e) low lone)
 ]
+
+-- on every link, whether it is there or not
+agrees-within : (e : Ends) → ((m : ℕ) (p : Proto) → 1 ≤ m → m ≤ length e.own.links → IsHeld m p e) → (m : ℕ) (p : Proto) → (m ≤ length e.own.links) ⊎ (length e.own.links < m) → AgreesOn m p e
+agrees-within e held zero p within = agrees-nowhere zero p e refl
+agrees-within e held (suc before) p (inl within) = agrees-on (suc before) p e (omega arith) (held (suc before) p (omega arith) within)
+agrees-within e held (suc before) p (inr beyond) = agrees-nowhere (suc before) p e (slice_get_past e.own.links before (omega (arith, beyond)))
+
+within-or : (m n : ℕ) → (m ≤ n) ⊎ (n < m)
+within-or m n = grind (arith, nat_tests)
+
+pub agrees-everywhere : (e : Ends) → ((m : ℕ) (p : Proto) → 1 ≤ m → m ≤ length e.own.links → IsHeld m p e) → (m : ℕ) (p : Proto) → AgreesOn m p e
+agrees-everywhere e held m p = agrees-within e held m p (within-or m (length e.own.links))
 
 -- ---- what is told
 

@@ -3,7 +3,6 @@ use Rattle.std.proofs.Common.{inl, inr, ◌≡◌, ℕ, zero, suc, ◌+◌, ◌-
 use Rattle.std.specs.Prelude.{◌≢◌, Option, Some, None, map, slice_get}
 use Rattle.std.specs.List.{AllByRecursion}
 use Rattle.std.proofs.lemmas.List.{length-map}
-use Rattle.std.proofs.lemmas.Option.{slice_get_cases}
 use Rattle.ppp_conf.specs.Config.{Settings as Config}
 use Rattle.ppp_conf.specs.EndConfig.{EndSettings}
 use Rattle.ppp_link.specs.Link.{Link}
@@ -34,7 +33,7 @@ use Rattle.ppp_world.specs.World.{BothBegin, IsSound, most_a_step}
 use Rattle.ppp_world.specs.declared.span.Ordinals.{Ordinals}
 use Rattle.ppp_world.specs.declared.step.Step.{Step}
 use Rattle.ppp_world.specs.declared.step.Step.TheVariants.{Happens, Delivers, Loses, Reboots, Reports, Rests}
-use Rattle.ppp_world.proofs.AgreementLemmas.{agrees-nowhere, agrees-on}
+use Rattle.ppp_world.proofs.AgreementLemmas.{agrees-everywhere}
 use Rattle.ppp_world.proofs.WidthLemmas.{AllNarrow, all-narrow, none-outstanding, there-only}
 
 -- ---- the ends turned
@@ -243,11 +242,7 @@ kept-begun c own other same begin =
 -- ---- two Opened ends agree
 
 agree-kept : (e : Ends) → IsKept e → AgreeEverywhere e
-agree-kept e kept zero p = agrees-nowhere zero p e refl
-agree-kept e kept (suc i) p = elim (slice_get_cases e.own.links i).1 [
-  | inl there ↦ agrees-on (suc i) p e (omega arith) (kept.held (suc i) p (omega arith) (omega (arith, there.1)))
-  | inr past ↦ agrees-nowhere (suc i) p e past.1
-]
+agree-kept e kept = agrees-everywhere e kept.held
 
 pub agree-sound : (e : Ends) (steps : ℕ) → IsSound e steps → AgreeEverywhere e
 agree-sound e steps s = agree-kept e (record { alike = s.alike; held = s.held })

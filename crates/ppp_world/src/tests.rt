@@ -73,10 +73,7 @@ fn take_line(alloc: Global, end: &mut End, line: &mut Vec<u8>) -> Result<(), Fai
 
 /// LCP is opened at both ends of the first link, and each takes what the other sends, that often.
 fn open_lcp(alloc: Global, a: &mut End, b: &mut End, turns: u8) -> Result<(), Fail> {
-    for event in [
-        StationEvent::Up(1),
-        StationEvent::AdminOpen(1, Proto::Lcp),
-    ] {
+    for event in [StationEvent::Up(1), StationEvent::AdminOpen(1, Proto::Lcp)] {
         happen(a, event, &mut b.line)?;
         happen(b, event, &mut a.line)?;
     }
@@ -96,17 +93,22 @@ fn shown(alloc: Global, step: u32, a: &End, b: &End) -> Result<String, Fail> {
     Ok(report)
 }
 
-/// A protocol that one end doesn't have is Absent there; LCP has its line always, others where an end has them.
+/// End a speaks IPCP, end b only LCP.
 const ONE_SIDED: &str = "a.protocols = [\"ip\"]\na.ip = \"10.0.0.1\"";
 
-/// Both ends speak three protocols on two links.
+/// Both ends speak IPCP and MPLSCP on two links.
 const BOTH: &str = "links = 2\na.protocols = [\"ip\", \"mpls\"]\na.ip = \"10.0.0.1\"\n\
     b.protocols = [\"ip\", \"mpls\"]\nb.ip = \"10.0.0.2\"";
 
 #[test]
 fn each_block_has_its_lines(rt: HostRuntime) -> Result<(), Fail> {
     for (settings, turns, step, wanted) in [
-        ("", 0, 4, "show 4\n1 lcp Req-Sent Req-Sent - - - - agree -\n"),
+        (
+            "",
+            0,
+            4,
+            "show 4\n1 lcp Req-Sent Req-Sent - - - - agree -\n",
+        ),
         (
             "",
             8,
