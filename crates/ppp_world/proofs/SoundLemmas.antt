@@ -18,7 +18,7 @@ use Rattle.ppp_party.specs.Seat.{IsNoFrame}
 use Rattle.ppp_party.specs.declared.happening.Happening.{Happening}
 use Rattle.ppp_party.specs.declared.happening.Happening.TheVariants as what
 use Rattle.ppp_party.proofs.HeldLemmas.{begins-held, happens-held, delivers-held, loses-held, reboots-held, turned-held}
-use Rattle.ppp_party.proofs.PartyLemmas.{happens-long, happens-others, delivers-long, delivers-others, loses-long, loses-others, reboots-long}
+use Rattle.ppp_party.proofs.PartyLemmas.{happens-own, happens-other, delivers-own, delivers-other, loses-own, loses-other, reboots-own, reboots-other}
 use Rattle.ppp_party.proofs.SeatLemmas.{same-or}
 use Rattle.ppp_script.specs.declared.end.End.{End}
 use Rattle.ppp_script.specs.declared.end.End.TheVariants.{A, B}
@@ -105,8 +105,8 @@ module _ (e : Ends) (steps : ℕ) (sound : IsSound e steps) (l : ℕ) (is : IsOf
   happens-on what word short =
       let k = some_at e.own.links (l - 1) (omega (arith, is.0, is.1)) in
       record {
-        own_long = happens-long (happening_seen what) l word e;
-        other_long = happens-others (happening_seen what) l word e;
+        own_long = happens-own (happening_seen what) l word e;
+        other_long = ap length (happens-other (happening_seen what) l word e);
         held = λ m p above below. happens-held (happening_seen what) l m p word e k.0 is.0 above k.1 (no_frame what) (short-done (happening_seen what) l word e.own.links k.0 k.1 short)
             (sound.narrow m p above below) (sound.held m p above below);
       }
@@ -116,16 +116,16 @@ module _ (e : Ends) (steps : ℕ) (sound : IsSound e steps) (l : ℕ) (is : IsOf
   delivers-on word short =
       let k = some_at e.own.links (l - 1) (omega (arith, is.0, is.1)) in
       record {
-        own_long = delivers-long l word e;
-        other_long = delivers-others l word e;
+        own_long = delivers-own l word e;
+        other_long = ap length (delivers-other l word e);
         held = λ m p above below. delivers-held l m p word e k.0 is.0 above k.1 (λ f rest front. short-done (Takes f.octets) l word e.own.links k.0 k.1 (short f rest front))
             (sound.narrow m p above below) (sound.held m p above below);
       }
 
   loses-on : (place : ℕ) → StepOn l e (loses l place e)
   loses-on place = record {
-    own_long = loses-long l place e;
-    other_long = loses-others l place e;
+    own_long = ap length (loses-own l place e);
+    other_long = ap (λ (p : Party). length p.links) (loses-other l place e);
     held = λ m p above below. loses-held l m place p e is.0 above (sound.narrow m p above below) (sound.held m p above below);
   }
 
@@ -177,10 +177,10 @@ turned-narrow e alike narrow m p above below = narrow-turned m p e (narrow m p a
 
 rebooted : (word : ℕ) (e : Ends) → IsKept e → IsKept (reboots word e)
 rebooted word e k =
-    let long = reboots-long word e in
+    let own = reboots-own word e in
     record {
-      alike = omega (arith, long.0, long.1, k.alike);
-      held = λ m p above below. reboots-held m p word e above (k.held m p above (omega (arith, below, long.0)));
+      alike = omega (arith, own, reboots-other word e, k.alike);
+      held = λ m p above below. reboots-held m p word e above (k.held m p above (omega (arith, below, own)));
     }
 
 pub step-after : (k steps : ℕ) (e : Ends) (step : Step) → IsSound e steps → IsLinked (length e.own.links) step → IsShort k e step → After step e (moved k e step)
