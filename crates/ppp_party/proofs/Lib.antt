@@ -3,6 +3,7 @@ mod KeptLemmas
 mod LedgerLemmas
 mod ListLemmas
 mod OrderLemmas
+pub mod PartyLemmas
 mod PostLemmas
 mod QueueLemmas
 mod ReadLemmas
