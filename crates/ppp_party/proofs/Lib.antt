@@ -1,3 +1,4 @@
+pub mod DoneLemmas
 mod HeardLemmas
 mod KeptLemmas
 mod LedgerLemmas
