@@ -1,69 +1,202 @@
--- Both ends keep their links, whatever happens.
-use Rattle.std.proofs.Common.{◌≡◌, ℕ, zero, suc, ◌+◌, ◌-◌, List, [], ◌∷◌, length, refl, sym, ap, ◌∙◌, arith}
-use Rattle.std.specs.Prelude.{Option, Some, None, map, slice_get}
+-- What an event makes of the two ends: how many links there are, and how much is counted.
+use Rattle.std.proofs.Common.{◌≡◌, ℕ, zero, suc, ◌+◌, ◌*◌, ◌-◌, ◌≤◌, List, [], ◌∷◌, ◌++◌, length, map, take, drop, set, refl, sym, ap, subst, ◌∙◌, arith, length-set}
+use Rattle.std.specs.Prelude.{Option, Some, None, slice_get}
+use Rattle.std.specs.List.{AllByRecursion}
 use Rattle.std.proofs.lemmas.List.{length-map}
+use Rattle.ppp_auto.specs.Auto.{Auto}
+use Rattle.ppp_auto.specs.Packet.{Packet, Request, Ack, Nak, Reject, Other, packet_of}
+use Rattle.ppp_auto.specs.declared.auto_state.AutoState.{AutoState}
+use Rattle.ppp_link.specs.Automata.{auto_at}
 use Rattle.ppp_link.specs.Link.{Link}
+use Rattle.ppp_packet.specs.declared.proto.Proto.{Proto}
+use Rattle.ppp_station.specs.Orders.{Order, Commands, SetsCap, Hears, RejectsProtocol, of_link}
 use Rattle.ppp_station.specs.Station.{link_ready, on_link, stepped_by, with_link}
-use Rattle.ppp_station.specs.Steps.{Happening, LineDown, Takes}
-use Rattle.ppp_party.specs.Frame.{Frame}
-use Rattle.ppp_party.specs.Party.{Ends, cleared, delivers, downs, happens, loses, party_begun, reboots, taking_front}
+use Rattle.ppp_station.specs.StationOut.{Entry}
+use Rattle.ppp_station.specs.Steps.{Happening, LineDown, Takes, link_done}
+use Rattle.ppp_duet.specs.Duet.{without}
+use Rattle.ppp_party.specs.Counted.{AreCounted, IsCounted}
+use Rattle.ppp_party.specs.Frame.{Frame, noted_frames}
+use Rattle.ppp_party.specs.Ledger.{Ledger, Ledgers, heard, ledger_at, ledger_begun, ledgers_begun}
+use Rattle.ppp_party.specs.Party.{Ends, Party, IsParty, at_link, cleared, delivers, downs, each_noted, each_queued, first_busy, happens, heard_by, heard_on, heard_packet, loses, party_begun, posted, pushes_on, queued, reboots, room, taking_front, turned, unheard, with_heard}
+use Rattle.ppp_party.proofs.SendLemmas.{counted-pushes, of-ledgers}
 
-with_link-long : (l : ℕ) (k : Link) (ks : List Link) → length (with_link l k ks) ≡ length ks
-with_link-long l k [] = refl
-with_link-long zero k (x ∷ xs) = refl
-with_link-long (suc zero) k (x ∷ xs) = refl
-with_link-long (suc (suc l)) k (x ∷ xs) = ap suc (with_link-long (suc l) k xs)
+-- ---- how many links
 
-stepped-long : (what : Happening) (l : ℕ) (links : List Link) (word : ℕ) (at : Option Link) → length (stepped_by what l links word at).links ≡ length links
-stepped-long what l links word None = refl
-stepped-long what l links word (Some k) = with_link-long l _ links
+with-length : (l : ℕ) (k : Link) (links : List Link) → length (with_link l k links) ≡ length links
+with-length l k [] = refl
+with-length zero k (x ∷ xs) = refl
+with-length (suc zero) k (x ∷ xs) = refl
+with-length (suc (suc l)) k (x ∷ xs) = ap suc (with-length (suc l) k xs)
 
-on_link-long : (what : Happening) (l : ℕ) (links : List Link) (word : ℕ) → length (on_link what l links word).links ≡ length links
-on_link-long what l links word = stepped-long what l links word (slice_get links (l - 1))
+stepped-length : (what : Happening) (l word : ℕ) (links : List Link) (o : Option Link) → length (stepped_by what l links word o).links ≡ length links
+stepped-length what l word links None = refl
+stepped-length what l word links (Some k) = with-length l (link_done what l k word).link links
 
-pub happens-long : (what : Happening) (l word : ℕ) (e : Ends) → length (happens what l word e).own.links ≡ length e.own.links
+pub on_link-length : (what : Happening) (l word : ℕ) (links : List Link) → length (on_link what l links word).links ≡ length links
+on_link-length what l word links = stepped-length what l word links (slice_get links (l - 1))
+
+pub happens-own : (what : Happening) (l word : ℕ) (e : Ends) → length (happens what l word e).own.links ≡ length e.own.links
 unfolding happens
-happens-long what l word e = on_link-long what l e.own.links word
+happens-own what l word e = on_link-length what l word e.own.links
 
-pub happens-others : (what : Happening) (l word : ℕ) (e : Ends) → length (happens what l word e).other.links ≡ length e.other.links
+pub happens-other : (what : Happening) (l word : ℕ) (e : Ends) → (happens what l word e).other.links ≡ e.other.links
 unfolding happens
-happens-others what l word e = refl
+happens-other what l word e = refl
 
-front-long : (l word : ℕ) (o : Option (List Frame)) (e : Ends) → length (taking_front l word o e).own.links ≡ length e.own.links
-front-long l word None e = refl
-front-long l word (Some []) e = refl
-front-long l word (Some (f ∷ rest)) e = on_link-long (Takes f.octets) l e.own.links word
+front-own : (l word : ℕ) (o : Option (List Frame)) (e : Ends) → length (taking_front l word o e).own.links ≡ length e.own.links
+front-own l word None e = refl
+front-own l word (Some []) e = refl
+front-own l word (Some (f ∷ rest)) e = on_link-length (Takes f.octets) l word e.own.links
 
-front-others : (l word : ℕ) (o : Option (List Frame)) (e : Ends) → length (taking_front l word o e).other.links ≡ length e.other.links
-front-others l word None e = refl
-front-others l word (Some []) e = refl
-front-others l word (Some (f ∷ rest)) e = refl
+front-other : (l word : ℕ) (o : Option (List Frame)) (e : Ends) → (taking_front l word o e).other.links ≡ e.other.links
+front-other l word None e = refl
+front-other l word (Some []) e = refl
+front-other l word (Some (f ∷ rest)) e = refl
 
-pub delivers-long : (l word : ℕ) (e : Ends) → length (delivers l word e).own.links ≡ length e.own.links
+pub delivers-own : (l word : ℕ) (e : Ends) → length (delivers l word e).own.links ≡ length e.own.links
 unfolding delivers
-delivers-long l word e = front-long l word (slice_get e.own.incoming (l - 1)) e
+delivers-own l word e = front-own l word (slice_get e.own.incoming (l - 1)) e
 
-pub delivers-others : (l word : ℕ) (e : Ends) → length (delivers l word e).other.links ≡ length e.other.links
+pub delivers-other : (l word : ℕ) (e : Ends) → (delivers l word e).other.links ≡ e.other.links
 unfolding delivers
-delivers-others l word e = front-others l word (slice_get e.own.incoming (l - 1)) e
+delivers-other l word e = front-other l word (slice_get e.own.incoming (l - 1)) e
 
-pub loses-long : (l place : ℕ) (e : Ends) → length (loses l place e).own.links ≡ length e.own.links
+pub loses-own : (l place : ℕ) (e : Ends) → (loses l place e).own.links ≡ e.own.links
 unfolding loses
-loses-long l place e = refl
+loses-own l place e = refl
 
-pub loses-others : (l place : ℕ) (e : Ends) → length (loses l place e).other.links ≡ length e.other.links
+pub loses-other : (l place : ℕ) (e : Ends) → (loses l place e).other ≡ e.other
 unfolding loses
-loses-others l place e = refl
+loses-other l place e = refl
 
-downs-long : (more l word : ℕ) (e : Ends) → (length (downs more l word e).own.links ≡ length e.own.links) × (length (downs more l word e).other.links ≡ length e.other.links)
-downs-long zero l word e = (refl, refl)
-downs-long (suc more) l word e =
-    let rest = downs-long more (l + 1) word (happens LineDown l word e) in
-    (rest.0 ∙ happens-long LineDown l word e, rest.1 ∙ happens-others LineDown l word e)
+pub downs-own : (many l word : ℕ) (e : Ends) → length (downs many l word e).own.links ≡ length e.own.links
+downs-own zero l word e = refl
+downs-own (suc many) l word e = downs-own many (l + 1) word (happens LineDown l word e) ∙ happens-own LineDown l word e
 
-pub reboots-long : (word : ℕ) (e : Ends) → (length (reboots word e).own.links ≡ length e.own.links) × (length (reboots word e).other.links ≡ length e.other.links)
+pub downs-other : (many l word : ℕ) (e : Ends) → (downs many l word e).other.links ≡ e.other.links
+downs-other zero l word e = refl
+downs-other (suc many) l word e = downs-other many (l + 1) word (happens LineDown l word e) ∙ happens-other LineDown l word e
+
+pub reboots-own : (word : ℕ) (e : Ends) → length (reboots word e).own.links ≡ length e.own.links
 unfolding reboots
-reboots-long word e =
-    let begun : Ends = record { own = cleared e.other; other = party_begun (map (λ k. link_ready k.tables) e.own.links) } in
-    let both = downs-long (length e.other.links) 1 word begun in
-    (both.1 ∙ length-map e.own.links _, both.0)
+reboots-own word e =
+    let anew = map (λ (k : Link). link_ready k.tables) e.own.links in
+    ap length (downs-other (length e.other.links) 1 word (record { own = cleared e.other; other = party_begun anew }))
+    ∙ length-map e.own.links (λ (k : Link). link_ready k.tables)
+
+pub reboots-other : (word : ℕ) (e : Ends) → length (reboots word e).other.links ≡ length e.other.links
+unfolding reboots
+reboots-other word e = downs-own (length e.other.links) 1 word (record { own = cleared e.other; other = party_begun (map (λ (k : Link). link_ready k.tables) e.own.links) })
+
+-- ---- how much is counted
+
+pub counted-above : (most more : ℕ) (e : Party) → most ≤ more → AreCounted most e → AreCounted more e
+counted-above most more e less all = each e.ledgers all
+  where
+    each : (gss : List Ledgers) → AllByRecursion (λ gs. IsCounted most gs) gss → AllByRecursion (λ gs. IsCounted more gs) gss
+    each [] all = tt
+    each (gs ∷ gss) all = ((λ p. let one = all.0 p in omega (arith, one, less)), each gss all.1)
+
+noted-counted : (most few m : ℕ) (es : List Entry) (gss : List Ledgers) → length es ≤ few → AllByRecursion (λ gs. IsCounted most gs) gss → AllByRecursion (λ gs. IsCounted (most + few) gs) (each_noted m es gss)
+noted-counted most few m es [] less all = tt
+noted-counted most few m es (gs ∷ gss) less all = (counted-pushes most few m gs es less all.0, noted-counted most few (m + 1) es gss less all.1)
+
+pub happens-counted : (most few : ℕ) (what : Happening) (l word : ℕ) (e : Ends) → length (on_link what l e.own.links word).out.entries ≤ few → AreCounted most e.own → AreCounted (most + few) (happens what l word e).own
+unfolding happens
+happens-counted most few what l word e less all = noted-counted most few 1 (on_link what l e.own.links word).out.entries e.own.ledgers less all
+
+pub happens-others : (most : ℕ) (what : Happening) (l word : ℕ) (e : Ends) → AreCounted most e.other → AreCounted most (happens what l word e).other
+unfolding happens
+happens-others most what l word e all = all
+
+packet-few : (g : Ledger) (state : AutoState) (mark : ℕ) (packet : Packet) → (heard g state mark packet).n ≡ g.n
+packet-few g state mark (Request id options) = grind arith
+packet-few g state mark (Ack id options) = refl
+packet-few g state mark (Nak id options) = refl
+packet-few g state mark (Reject id options) = refl
+packet-few g state mark (Other code id octets) = refl
+
+heard-few : (g : Ledger) (a : Option Auto) (mark : ℕ) (o : Option Packet) → (heard_packet g a mark o).n ≡ g.n
+heard-few g (Some a) mark (Some packet) = packet-few g a.state mark packet
+heard-few g (Some a) mark None = refl
+heard-few g None mark o = refl
+
+orders-few : (g : Ledger) (a : Option Auto) (mark : ℕ) (os : List Order) → (heard_by g a mark os).n ≡ g.n
+orders-few g a mark [] = refl
+orders-few g a mark (Commands event ∷ os) = refl
+orders-few g a mark (SetsCap cap ∷ os) = refl
+orders-few g a mark (Hears octets ∷ os) = heard-few g a mark (packet_of octets)
+orders-few g a mark (RejectsProtocol packet ∷ os) = refl
+
+heard-counted : (most word : ℕ) (k : Link) (f : Frame) (gs : Ledgers) → IsCounted most gs → IsCounted most (heard_on k f word gs)
+heard-counted most word k f gs all p =
+    let os = of_link p (Takes f.octets) k word in
+    let same : ledger_at (heard_on k f word gs) p ≡ heard_by (ledger_at gs p) (auto_at k.automata p) f.mark os =
+    of-ledgers (λ p. heard_by (ledger_at gs p) (auto_at k.automata p) f.mark (of_link p (Takes f.octets) k word)) p in
+    let few = orders-few (ledger_at gs p) (auto_at k.automata p) f.mark os in
+    let one = all p in
+    omega (arith, one, few, ap (λ (g : Ledger). g.n) same)
+
+at-counted : (most l : ℕ) (change : Ledgers → Ledgers) (gss : List Ledgers) → ((gs : Ledgers) → IsCounted most gs → IsCounted most (change gs)) →
+    AllByRecursion (λ gs. IsCounted most gs) gss → AllByRecursion (λ gs. IsCounted most gs) (at_link l change gss)
+at-counted most l change [] keeps all = tt
+at-counted most zero change (gs ∷ gss) keeps all = all
+at-counted most (suc zero) change (gs ∷ gss) keeps all = (keeps gs all.0, all.1)
+at-counted most (suc (suc l)) change (gs ∷ gss) keeps all = (all.0, at-counted most (suc l) change gss keeps all.1)
+
+with-counted : (most l word : ℕ) (f : Frame) (rest : List Frame) (k : Option Link) (e : Party) → AreCounted most e → AreCounted most (with_heard l word f rest k e)
+with-counted most l word f rest None e all = all
+with-counted most l word f rest (Some k) e all = at-counted most l (heard_on k f word) e.ledgers (λ gs one. heard-counted most word k f gs one) all
+
+front-counted : (most few l word : ℕ) (o : Option (List Frame)) (e : Ends) → ((f : Frame) (rest : List Frame) → o ≡ Some (f ∷ rest) → length (on_link (Takes f.octets) l e.own.links word).out.entries ≤ few) →
+    AreCounted most e.own → AreCounted (most + few) (taking_front l word o e).own
+front-counted most few l word None e less all = counted-above most (most + few) e.own (omega arith) all
+front-counted most few l word (Some []) e less all = counted-above most (most + few) e.own (omega arith) all
+front-counted most few l word (Some (f ∷ rest)) e less all =
+    let heard = with_heard l word f rest (slice_get e.own.links (l - 1)) e.own in
+    noted-counted most few 1 (on_link (Takes f.octets) l e.own.links word).out.entries heard.ledgers (less f rest refl) (with-counted most l word f rest (slice_get e.own.links (l - 1)) e.own all)
+
+pub delivers-counted : (most few l word : ℕ) (e : Ends) → ((f : Frame) (rest : List Frame) → slice_get e.own.incoming (l - 1) ≡ Some (f ∷ rest) → length (on_link (Takes f.octets) l e.own.links word).out.entries ≤ few) →
+    AreCounted most e.own → AreCounted (most + few) (delivers l word e).own
+unfolding delivers
+delivers-counted most few l word e less all = front-counted most few l word (slice_get e.own.incoming (l - 1)) e less all
+
+front-others : (most l word : ℕ) (o : Option (List Frame)) (e : Ends) → AreCounted most e.other → AreCounted most (taking_front l word o e).other
+front-others most l word None e all = all
+front-others most l word (Some []) e all = all
+front-others most l word (Some (f ∷ rest)) e all = all
+
+pub delivers-others : (most l word : ℕ) (e : Ends) → AreCounted most e.other → AreCounted most (delivers l word e).other
+unfolding delivers
+delivers-others most l word e all = front-others most l word (slice_get e.own.incoming (l - 1)) e all
+
+pub loses-counted : (most l place : ℕ) (e : Ends) → AreCounted most e.own → AreCounted most (loses l place e).own
+unfolding loses
+loses-counted most l place e all = all
+
+-- an end as it begins has counted nothing
+begun-each : (links : List Link) → AllByRecursion (λ gs. IsCounted 0 gs) (map (λ (k : Link). ledgers_begun) links)
+begun-each [] = tt
+begun-each (k ∷ ks) = ((λ p. let e = of-ledgers (λ p. ledger_begun) p in omega (arith, ap (λ (g : Ledger). g.n) e)), begun-each ks)
+
+pub begun-counted : (links : List Link) → AreCounted 0 (party_begun links)
+begun-counted links = begun-each links
+
+pub downs-others : (most many l word : ℕ) (e : Ends) → AreCounted most e.other → AreCounted most (downs many l word e).other
+downs-others most zero l word e all = all
+downs-others most (suc many) l word e all = downs-others most many (l + 1) word (happens LineDown l word e) (happens-others most LineDown l word e all)
+
+pub reboots-counted : (word : ℕ) (e : Ends) → AreCounted 0 (reboots word e).own
+unfolding reboots
+reboots-counted word e =
+    let anew = map (λ (k : Link). link_ready k.tables) e.own.links in
+    downs-others 0 (length e.other.links) 1 word (record { own = cleared e.other; other = party_begun anew }) (begun-counted anew)
+
+-- what was heard counts no longer, and what was sent counts on
+cleared-each : (most : ℕ) (gss : List Ledgers) → AllByRecursion (λ gs. IsCounted most gs) gss → AllByRecursion (λ gs. IsCounted most gs) (map unheard gss)
+cleared-each most [] all = tt
+cleared-each most (gs ∷ gss) all =
+    ((λ p. let one = all.0 p in let same = of-ledgers (λ p. record (ledger_at gs p) { got = 0 }) p in omega (arith, one, ap (λ (g : Ledger). g.n) same)), cleared-each most gss all.1)
+
+pub cleared-counted : (most : ℕ) (e : Party) → AreCounted most e → AreCounted most (cleared e)
+cleared-counted most e all = cleared-each most e.ledgers all

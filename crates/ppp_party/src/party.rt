@@ -3,11 +3,12 @@
 ghost use Rattle.std.specs.Prelude.{◌≡◌, ◌+◌, ◌*◌, ◌-◌, ◌^◌, ◌≤◌, ◌∷◌, ◌++◌, [], ℕ, List, length, map, IfOk, OnOk, Some, slice_get};
 ghost use Rattle.ppp_conf.specs.EndConfig.{end_seen};
 ghost use Rattle.ppp_party.specs.Counted.{AreCounted};
-ghost use Rattle.ppp_party.specs.Frame.{Frame};
+ghost use Rattle.ppp_link.specs.Link.{Link};
+ghost use Rattle.ppp_party.specs.Frame as way;
 ghost use Rattle.ppp_party.specs.Happening.{happening_seen};
 ghost use Rattle.ppp_party.specs.Ledger.{ledgers_begun};
 ghost use Rattle.ppp_party.specs.Party as spec;
-ghost use Rattle.ppp_party.specs.Party.{at_link, cleared, delivers, downs, first_busy, happens, loses, party_begun, reboots, unheard};
+ghost use Rattle.ppp_party.specs.Party.{at_link, cleared, delivers, downs, first_busy, happens, heard_on, loses, party_begun, reboots, unheard};
 ghost use Rattle.ppp_party.specs.Spans.{oldest_on, sent_on};
 ghost use Rattle.ppp_station.specs.Station.{link_ready, on_link, BeginsBy, IsOfLink};
 ghost use Rattle.ppp_station.specs.StationOut.{AreShort};
@@ -16,6 +17,7 @@ ghost use Rattle.ppp_station.specs.declared.station_out.TheConstants.{MOST_ENTRI
 
 use crate::carried::lent_carried;
 use crate::desk::{Desk, post};
+use crate::frame::Frame;
 use crate::happening::{Happening, happen_at};
 use crate::ledgers::Ledgers;
 use crate::queue::Queue;
@@ -23,7 +25,7 @@ use crate::states::States;
 use ppp_conf::EndConfig;
 use ppp_memory::Memory;
 use ppp_packet::Proto;
-use ppp_station::{Station, StationEvent};
+use ppp_station::{Station, StationEvent, StationOut};
 use std::alloc::Global;
 use std::marker::Model;
 
@@ -146,7 +148,7 @@ impl Party {
         requires few { AreCounted (2 ^ 62) self.old }
         ensures done { OnOk result (record { own = self.new; other = other.new }
             ≡ delivers link word (record { own = self.old; other = other.old })) }
-        ensures short { (f : Frame) (rest : List Frame) → slice_get self.old.incoming (link - 1) ≡ Some (f ∷ rest)
+        ensures short { (f : way.Frame) (rest : List way.Frame) → slice_get self.old.incoming (link - 1) ≡ Some (f ∷ rest)
             → AreShort (on_link (Takes f.octets) link self.old.links word).out.entries }
         ensures counted { (n : ℕ) → AreCounted n self.old → OnOk result (AreCounted (n + MOST_ENTRIES) self.new) }
     {
@@ -154,14 +156,14 @@ impl Party {
         let Some(frame) = self.incoming[i].pop() else {
             return Ok(());
         };
-        let states = States::of(self.station.link(link));
-        self.station.event(
-            StationEvent::Bytes(link, frame.octets()),
+        take(
+            &mut self.station,
+            &frame,
+            link,
             word,
             &mut desk.out,
+            &mut self.ledgers[i],
         );
-        let lent = lent_carried(self.station.link(link).deframer());
-        self.ledgers[i].hear(&states, frame.mark(), &lent);
         post(
             &desk.out,
             &mut desk.reader,
@@ -227,6 +229,29 @@ impl Party {
     }
 }
 
+/// Gives a frame to a link of a station, and notes what is heard of it.
+fn take(
+    station: &mut Station,
+    frame: &Frame,
+    link: u8,
+    word: u64,
+    out: &mut StationOut,
+    ledgers: &mut Ledgers,
+)
+    requires { IsOfLink (length station.old) link }
+    ensures links { station.new ≡ (on_link (Takes frame.now.octets) link station.old word).links }
+    ensures out { out.new ≡ (on_link (Takes frame.now.octets) link station.old word).out }
+    ensures short { AreShort out.new.entries }
+    ensures few { length out.new.entries ≤ MOST_ENTRIES }
+    ensures heard { (k : Link) → slice_get station.old (link - 1) ≡ Some k
+        → ledgers.new ≡ heard_on k frame.now word ledgers.old }
+{
+    let states = States::of(station.link(link));
+    station.event(StationEvent::Bytes(link, frame.octets()), word, out);
+    let lent = lent_carried(station.link(link).deframer());
+    ledgers.hear(&states, frame.mark(), &lent);
+}
+
 /// Puts ledgers behind others.
 fn put_ledgers(ledgers: &mut Vec<Ledgers>, one: Ledgers) -> Result<(), Memory>
     ensures { OnOk result (ledgers.new.items ≡ ledgers.old.items ++ one ∷ []) }
@@ -243,7 +268,7 @@ fn put_queue(incoming: &mut Vec<Queue>, queue: Queue) -> Result<(), Memory>
 
 /// Loses what is under way on all links.
 fn empty(incoming: &mut Vec<Queue>)
-    ensures { incoming.new.items ≡ map (λ (queue : List Frame). []) incoming.old.items }
+    ensures { incoming.new.items ≡ map (λ (queue : List way.Frame). []) incoming.old.items }
 {
     for i in 0..incoming.len() {
         incoming[i].clear();

@@ -1,0 +1,18 @@
+use Rattle.std.proofs.Common.{◌∙◌, List, [], ap, length, map, sym, subst}
+use Rattle.std.specs.List.{AllByRecursion}
+use Rattle.ppp_link.specs.Link.{Link}
+use Rattle.ppp_party.specs.Frame.{Frame}
+use Rattle.ppp_party.specs.Ledger.{Ledgers, ledgers_begun}
+use Rattle.ppp_party.specs.Party.{Party, party_begun}
+use Rattle.ppp_party.proofs.DoneLemmas.{whole-emptied, begun-emptied}
+use Rattle.ppp_party.proofs.party.Party.begin.Goals as goal
+
+pub invariant_of-self : goal.invariant_of-self
+invariant_of-self c =
+    let own : Party = record { links = c.self.inside.station; ledgers = c.self.inside.ledgers.items; incoming = c.self.inside.incoming.items } in
+    whole-emptied (λ gs. ledgers_begun) own c.begin.new.ledgers.items c.empty.new.incoming.items c.self.invariant c.begin.ensures c.empty.ensures
+
+pub returns : goal.returns
+returns c =
+    let own : Party = record { links = c.self.inside.station; ledgers = c.self.inside.ledgers.items; incoming = c.self.inside.incoming.items } in
+    rw (← c.self.view_is) (begun-emptied own c.begin.new.ledgers.items c.empty.new.incoming.items c.self.invariant c.begin.ensures c.empty.ensures)
