@@ -1,3 +1,4 @@
+pub mod DoneLemmas
 mod DownLemmas
 pub mod HeldLemmas
 mod HeardLemmas
