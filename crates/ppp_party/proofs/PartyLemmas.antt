@@ -97,6 +97,11 @@ counted-above most more e less all = each e.ledgers all
     each [] all = tt
     each (gs ∷ gss) all = ((λ p. let one = all.0 p in omega (arith, one, less)), each gss all.1)
 
+pub counted-at : (most i : ℕ) (gss : List Ledgers) (gs : Ledgers) → AllByRecursion (λ gs. IsCounted most gs) gss → slice_get gss i ≡ Some gs → IsCounted most gs
+counted-at most i [] gs all is = absurd (cc)
+counted-at most zero (x ∷ xs) gs all is = let same : x ≡ gs = cc in subst (λ gs. IsCounted most gs) same all.0
+counted-at most (suc i) (x ∷ xs) gs all is = counted-at most i xs gs all.1 is
+
 noted-counted : (most few m : ℕ) (es : List Entry) (gss : List Ledgers) → length es ≤ few → AllByRecursion (λ gs. IsCounted most gs) gss → AllByRecursion (λ gs. IsCounted (most + few) gs) (each_noted m es gss)
 noted-counted most few m es [] less all = tt
 noted-counted most few m es (gs ∷ gss) less all = (counted-pushes most few m gs es less all.0, noted-counted most few (m + 1) es gss less all.1)
@@ -128,7 +133,7 @@ orders-few g a mark (SetsCap cap ∷ os) = refl
 orders-few g a mark (Hears octets ∷ os) = heard-few g a mark (packet_of octets)
 orders-few g a mark (RejectsProtocol packet ∷ os) = refl
 
-heard-counted : (most word : ℕ) (k : Link) (f : Frame) (gs : Ledgers) → IsCounted most gs → IsCounted most (heard_on k f word gs)
+pub heard-counted : (most word : ℕ) (k : Link) (f : Frame) (gs : Ledgers) → IsCounted most gs → IsCounted most (heard_on k f word gs)
 heard-counted most word k f gs all p =
     let os = of_link p (Takes f.octets) k word in
     let same : ledger_at (heard_on k f word gs) p ≡ heard_by (ledger_at gs p) (auto_at k.automata p) f.mark os =

@@ -156,20 +156,21 @@ impl Party {
         let Some(frame) = self.incoming[i].pop() else {
             return Ok(());
         };
+        let ledgers = &mut self.ledgers[i];
         take(
             &mut self.station,
             &frame,
             link,
             word,
             &mut desk.out,
-            &mut self.ledgers[i],
+            ledgers,
         );
         post(
             &desk.out,
             &mut desk.reader,
             link,
             frame.mark(),
-            &mut self.ledgers[i],
+            ledgers,
             &mut other.incoming[i],
         )
     }
