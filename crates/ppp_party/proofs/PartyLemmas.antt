@@ -1,5 +1,5 @@
 -- What an event makes of the two ends: how many links there are, and how much is counted.
-use Rattle.std.proofs.Common.{◌≡◌, ℕ, zero, suc, ◌+◌, ◌*◌, ◌-◌, ◌≤◌, List, [], ◌∷◌, ◌++◌, length, map, take, drop, set, refl, sym, ap, subst, ◌∙◌, arith, length-set}
+use Rattle.std.proofs.Common.{◌≡◌, ℕ, zero, suc, ◌+◌, ◌*◌, ◌-◌, ◌<◌, ◌≤◌, List, [], ◌∷◌, ◌++◌, length, map, take, drop, set, refl, sym, ap, subst, ◌∙◌, arith, length-set}
 use Rattle.std.specs.Prelude.{Option, Some, None, slice_get}
 use Rattle.std.specs.List.{AllByRecursion}
 use Rattle.std.proofs.lemmas.List.{length-map}
@@ -205,3 +205,15 @@ cleared-each most (gs ∷ gss) all =
 
 pub cleared-counted : (most : ℕ) (e : Party) → AreCounted most e → AreCounted most (cleared e)
 cleared-counted most e all = cleared-each most e.ledgers all
+
+-- ---- one line after the other goes down
+
+pub downs-next : (all i word : ℕ) (e new whole : Ends) → i < all → new ≡ happens LineDown (i + 1) word e →
+    downs (all - i) (1 + i) word e ≡ whole → downs (all - (i + 1)) (1 + (i + 1)) word new ≡ whole
+downs-next all i word e new whole less is left =
+    let many : all - i ≡ suc (all - (i + 1)) = omega arith in
+    let number : 1 + i ≡ i + 1 = omega arith in
+    let next : 1 + (i + 1) ≡ 1 + i + 1 = omega arith in
+    (λ k. downs (all - (i + 1)) (next k) word ((is ∙ ap (λ l. happens LineDown l word e) (sym number)) k))
+    ∙ ap (λ n. downs n (1 + i) word e) (sym many)
+    ∙ left
