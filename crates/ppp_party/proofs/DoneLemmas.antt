@@ -8,12 +8,12 @@ use Rattle.ppp_duet.specs.Duet.{without}
 use Rattle.ppp_duet.specs.Span.{answers, least, requests}
 use Rattle.ppp_link.specs.Link.{Link}
 use Rattle.ppp_packet.specs.declared.proto.Proto.{Proto}
-use Rattle.ppp_station.specs.Station.{on_link}
+use Rattle.ppp_station.specs.Station.{link_ready, on_link}
 use Rattle.ppp_station.specs.StationOut.{Out}
 use Rattle.ppp_station.specs.Steps.{Happening, LineDown, Takes}
 use Rattle.ppp_party.specs.Frame.{Frame, marked_frames, noted_frames, only}
 use Rattle.ppp_party.specs.Ledger.{Ledger, Ledgers, ledger_at, ledgers_begun}
-use Rattle.ppp_party.specs.Party.{Ends, Party, IsParty, at_link, delivers, downs, happens, heard_on, loses, party_begun, posted, pushes_on, queued, room, taking_front, with_heard}
+use Rattle.ppp_party.specs.Party.{Ends, Party, IsParty, at_link, cleared, delivers, downs, happens, heard_on, loses, party_begun, posted, pushes_on, queued, reboots, room, taking_front, turned, with_heard}
 use Rattle.ppp_party.specs.Spans.{ledger_if, oldest_on, queue_if, sent_on}
 use Rattle.ppp_party.proofs.ListLemmas.{at-set}
 use Rattle.ppp_party.proofs.QueueLemmas.{least-behind}
@@ -213,3 +213,13 @@ pub begun-all : (links : List Link) (n : ℕ) (gss : List Ledgers) (queues : Lis
     record { links = links; ledgers = gss; incoming = queues } ≡ party_begun links
 begun-all links n gss queues count ledgers incoming =
     (λ i. record { links = links; ledgers = (ledgers ∙ all-begun ledgers_begun n links count) i; incoming = (incoming ∙ all-begun [] n links count) i })
+
+-- ---- an end begins anew
+
+pub rebooted : (word : ℕ) (own other empty begun now later : Party) (links : List Link) → links ≡ map (λ (k : Link). link_ready k.tables) own.links → begun ≡ party_begun links → empty ≡ cleared other →
+    record { own = later; other = now } ≡ downs (length empty.links) 1 word (record { own = empty; other = begun }) →
+    record { own = now; other = later } ≡ reboots word (record { own = own; other = other })
+unfolding reboots
+rebooted word own other empty begun now later links links_are begun_is empty_is is =
+    ap turned is
+    ∙ (λ i. turned (downs (length ((empty_is i).links)) 1 word (record { own = empty_is i; other = (begun_is ∙ ap party_begun links_are) i })))

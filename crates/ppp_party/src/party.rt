@@ -190,7 +190,7 @@ impl Party {
         requires few { AreCounted (2 ^ 61) other.old }
         ensures done { OnOk result (record { own = self.new; other = other.new }
             ≡ reboots word (record { own = self.old; other = other.old })) }
-        ensures counted { AreCounted 0 self.new }
+        ensures counted { OnOk result (AreCounted 0 self.new) }
         ensures others { (n : ℕ) → AreCounted n other.old → OnOk result (AreCounted (n + 16 * MOST_ENTRIES) other.new) }
     {
         self.station.event(StationEvent::Reset, word, &mut desk.out);
