@@ -1,6 +1,7 @@
 use Rattle.std.proofs.Common.{◌≡◌, ◌∙◌, ◌^◌, ap, subst, sym}
 use Rattle.std.specs.Prelude.{OnOk}
 use Rattle.ppp_party.specs.Counted.{AreCounted}
+use Rattle.ppp_party.specs.Downs.{AreShortDowns}
 use Rattle.ppp_party.specs.Party.{Ends, Party, reboots}
 use Rattle.ppp_party.proofs.DoneLemmas.{rebooted}
 use Rattle.ppp_party.proofs.PartyLemmas.{cleared-counted, reboots-counted}
@@ -28,3 +29,6 @@ returns-clause-counted c =
 
 pub returns-clause-others : goal.returns-clause-others
 returns-clause-others c n all = c.go_down.ensures.counted n (subst (λ p. AreCounted n p) (sym c.clear.ensures) (cleared-counted n c.args.other.now all))
+
+pub returns-clause-short : goal.returns-clause-short
+returns-clause-short c = on_ok_map c.go_down.result c.go_down.ensures.short (λ short. subst (λ (p : Party). AreShortDowns c.args.word p.links) c.clear.ensures short)
