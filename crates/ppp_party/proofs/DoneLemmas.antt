@@ -2,18 +2,18 @@
 use Rattle.std.proofs.Common.{◌≡◌, ℕ, zero, suc, ◌+◌, ◌-◌, ◌<◌, ◌≤◌, List, [], ◌∷◌, ◌++◌, length, map, set, get_or, replicate, refl, sym, ap, subst, ◌∙◌, arith, length-set}
 use Rattle.std.specs.Prelude.{Option, Some, None, slice_get}
 use Rattle.std.specs.List.{AllByRecursion}
-use Rattle.std.proofs.lemmas.List.{length-map, set-get_or}
+use Rattle.std.proofs.lemmas.List.{get_or-set_same, length-map, set-get_or, set-set}
 use Rattle.std.proofs.lemmas.Option.{slice_get_read}
 use Rattle.ppp_duet.specs.Duet.{without}
 use Rattle.ppp_duet.specs.Span.{answers, least, requests}
 use Rattle.ppp_link.specs.Link.{Link}
 use Rattle.ppp_packet.specs.declared.proto.Proto.{Proto}
-use Rattle.ppp_station.specs.Station.{on_link}
+use Rattle.ppp_station.specs.Station.{link_ready, on_link}
 use Rattle.ppp_station.specs.StationOut.{Out}
 use Rattle.ppp_station.specs.Steps.{Happening, LineDown, Takes}
 use Rattle.ppp_party.specs.Frame.{Frame, marked_frames, noted_frames, only}
 use Rattle.ppp_party.specs.Ledger.{Ledger, Ledgers, ledger_at, ledgers_begun}
-use Rattle.ppp_party.specs.Party.{Ends, Party, IsParty, at_link, delivers, downs, happens, heard_on, loses, party_begun, posted, pushes_on, queued, room, taking_front, with_heard}
+use Rattle.ppp_party.specs.Party.{Ends, Party, IsParty, at_link, cleared, delivers, downs, happens, heard_on, loses, party_begun, posted, pushes_on, queued, reboots, room, taking_front, turned, with_heard}
 use Rattle.ppp_party.specs.Spans.{ledger_if, oldest_on, queue_if, sent_on}
 use Rattle.ppp_party.proofs.ListLemmas.{at-set}
 use Rattle.ppp_party.proofs.QueueLemmas.{least-behind}
@@ -33,6 +33,15 @@ whole-ledgers e links i gs same is = record {
   few = is.few;
 }
 
+-- the front frame is taken out
+pub whole-taken : (e : Party) (links : List Link) (i : ℕ) (gs : Ledgers) (queue : List Frame) → length links ≡ length e.links → length queue ≤ room → IsParty e →
+    IsParty (record { links = links; ledgers = set e.ledgers i gs; incoming = set e.incoming i queue })
+whole-taken e links i gs queue same few is = record {
+  ledgers = length-set e.ledgers i gs ∙ is.ledgers ∙ sym same;
+  incoming = length-set e.incoming i queue ∙ is.incoming ∙ sym same;
+  few = few-set e.incoming i queue is.few few;
+}
+
 pub whole-queue : (e : Party) (i : ℕ) (queue : List Frame) → length queue ≤ room → IsParty e → IsParty (record { links = e.links; ledgers = e.ledgers; incoming = set e.incoming i queue })
 whole-queue e i queue few is = record {
   ledgers = is.ledgers;
@@ -41,6 +50,15 @@ whole-queue e i queue few is = record {
 }
 
 -- ---- what goes out on a link
+
+-- there is a link of that number
+pub there-is : {X : Type 0} (xs : List X) (l : ℕ) → 1 ≤ l → l ≤ length xs → (x : X) × (slice_get xs (l - 1) ≡ Some x)
+there-is xs l low high = by xs (l - 1) (omega arith)
+  where
+    by : {X : Type 0} (xs : List X) (i : ℕ) → i < length xs → (x : X) × (slice_get xs i ≡ Some x)
+    by [] i less = absurd (omega arith)
+    by (x ∷ xs) zero less = (x, refl)
+    by (x ∷ xs) (suc i) less = by xs i (omega arith)
 
 -- what an index lends
 pub lent-at : {X : Type 0} (xs : List X) (at l : ℕ) (x : X) → at ≡ l - 1 → 1 ≤ l → l ≤ length xs → x ≡ get_or xs at x → slice_get xs (l - 1) ≡ Some x
@@ -88,26 +106,45 @@ heard-party l at word own k f rest front gs heard is low there waits link heard_
     })
     ∙ ap (λ o. with_heard l word f rest o own) (sym link)
 
-pub delivered : (l at word mark : ℕ) (own other : Party) (k : Link) (links : List Link) (told : Out) (f : Frame) (front rest : List Frame) (gs heard now noted : Ledgers) (queue longer : List Frame) →
+pub delivered : (l at word mark : ℕ) (own other : Party) (k : Link) (links : List Link) (told : Out) (f : Frame) (front rest : List Frame) (gs heard noted : Ledgers) (queue longer : List Frame) →
     at ≡ l - 1 → 1 ≤ l → l ≤ length own.links → length other.links ≡ length own.links → IsParty own → IsParty other →
     front ≡ get_or own.incoming at front → front ≡ f ∷ rest → slice_get own.links (l - 1) ≡ Some k →
     links ≡ (on_link (Takes f.octets) l own.links word).links → told ≡ (on_link (Takes f.octets) l own.links word).out →
-    gs ≡ get_or own.ledgers at gs → heard ≡ heard_on k f word gs → now ≡ get_or (set own.ledgers at heard) at now → queue ≡ get_or other.incoming at queue → mark ≡ f.mark →
-    noted ≡ noted_frames now (pushes_on l told.entries) → longer ≡ queued queue (marked_frames now mark (pushes_on l told.entries)) →
+    gs ≡ get_or own.ledgers at gs → heard ≡ heard_on k f word gs → queue ≡ get_or other.incoming at queue → mark ≡ f.mark →
+    noted ≡ noted_frames heard (pushes_on l told.entries) → longer ≡ queued queue (marked_frames heard mark (pushes_on l told.entries)) →
     record {
-      own = record { links = links; ledgers = set (set own.ledgers at heard) at noted; incoming = set own.incoming at rest };
+      own = record { links = links; ledgers = set own.ledgers at noted; incoming = set own.incoming at rest };
       other = record { links = other.links; ledgers = other.ledgers; incoming = set other.incoming at longer };
     } ≡ delivers l word (record { own = own; other = other })
 unfolding delivers
-delivered l at word mark own other k links told f front rest gs heard now noted queue longer is low high alike whole others lends front_is link links_are told_is there heard_is here waits mark_is noted_is longer_is =
+delivered l at word mark own other k links told f front rest gs heard noted queue longer is low high alike whole others lends front_is link links_are told_is there heard_is waits mark_is noted_is longer_is =
     let middle : Party = record { links = own.links; ledgers = set own.ledgers at heard; incoming = set own.incoming at rest } in
     let size : length middle.ledgers ≡ length own.links = length-set own.ledgers at heard ∙ whole.ledgers in
     let waiting : slice_get own.incoming (l - 1) ≡ Some front = lent-at own.incoming at l front is low (omega (arith, high, whole.incoming)) lends in
     let ledgers : slice_get own.ledgers (l - 1) ≡ Some gs = lent-at own.ledgers at l gs is low (omega (arith, high, whole.ledgers)) there in
-    let longer_so : longer ≡ queued queue (marked_frames now f.mark (pushes_on l told.entries)) = longer_is ∙ ap (λ m. queued queue (marked_frames now m (pushes_on l told.entries))) mark_is in
-    posts (Takes f.octets) l at word f.mark middle other own.links links told now noted queue longer is low (omega (arith, high, size)) (omega (arith, high, alike, others.incoming)) others.few links_are told_is here waits noted_is longer_so
+    let here : heard ≡ get_or middle.ledgers at heard = sym (get_or-set_same own.ledgers at heard heard (omega (arith, is, low, high, whole.ledgers))) in
+    let longer_so : longer ≡ queued queue (marked_frames heard f.mark (pushes_on l told.entries)) = longer_is ∙ ap (λ m. queued queue (marked_frames heard m (pushes_on l told.entries))) mark_is in
+    ap (λ gss. record { own = record { links = links; ledgers = gss; incoming = set own.incoming at rest }; other = record { links = other.links; ledgers = other.ledgers; incoming = set other.incoming at longer } }) (sym (set-set own.ledgers at heard noted))
+    ∙ posts (Takes f.octets) l at word f.mark middle other own.links links told heard noted queue longer is low (omega (arith, high, size)) (omega (arith, high, alike, others.incoming)) others.few links_are told_is here waits noted_is longer_so
     ∙ ap (λ p. posted f.mark (on_link (Takes f.octets) l own.links word) (record { own = p; other = other })) (heard-party l at word own k f rest front gs heard is low ledgers waiting link heard_is)
     ∙ ap (λ o. taking_front l word o (record { own = own; other = other })) (sym (waiting ∙ ap (λ queue. Some queue) front_is))
+
+-- what holds of the step by the front frame
+pub front-of : (P : Out → Type 0) (l at word : ℕ) (own : Party) (g f : Frame) (front behind rest : List Frame) (told : Out) → at ≡ l - 1 → 1 ≤ l → l ≤ length own.links → IsParty own →
+    front ≡ get_or own.incoming at front → front ≡ g ∷ behind → told ≡ (on_link (Takes g.octets) l own.links word).out → P told →
+    slice_get own.incoming (l - 1) ≡ Some (f ∷ rest) → P (on_link (Takes f.octets) l own.links word).out
+front-of P l at word own g f front behind rest told is low high whole lends front_is told_is holds there =
+    let waiting : slice_get own.incoming (l - 1) ≡ Some front = lent-at own.incoming at l front is low (omega (arith, high, whole.incoming)) lends in
+    let both : Some (g ∷ behind) ≡ Some (f ∷ rest) = sym (waiting ∙ ap (λ queue. Some queue) front_is) ∙ there in
+    let same : g ≡ f = cc in
+    subst P (told_is ∙ ap (λ (f : Frame). (on_link (Takes f.octets) l own.links word).out) same) holds
+
+pub no-front : (l at : ℕ) (own : Party) (f : Frame) (front rest : List Frame) → at ≡ l - 1 → 1 ≤ l → l ≤ length own.links → IsParty own →
+    front ≡ get_or own.incoming at front → front ≡ [] → slice_get own.incoming (l - 1) ≡ Some (f ∷ rest) → ⊥
+no-front l at own f front rest is low high whole lends none there =
+    let waiting : slice_get own.incoming (l - 1) ≡ Some front = lent-at own.incoming at l front is low (omega (arith, high, whole.incoming)) lends in
+    let both : Some [] ≡ Some (f ∷ rest) = sym (waiting ∙ ap (λ queue. Some queue) none) ∙ there in
+    cc
 
 -- there is none
 pub undelivered : (l at word : ℕ) (own other : Party) (front rest : List Frame) → at ≡ l - 1 → 1 ≤ l → l ≤ length own.links → IsParty own → front ≡ get_or own.incoming at front → front ≡ [] → rest ≡ [] →
@@ -176,3 +213,13 @@ pub begun-all : (links : List Link) (n : ℕ) (gss : List Ledgers) (queues : Lis
     record { links = links; ledgers = gss; incoming = queues } ≡ party_begun links
 begun-all links n gss queues count ledgers incoming =
     (λ i. record { links = links; ledgers = (ledgers ∙ all-begun ledgers_begun n links count) i; incoming = (incoming ∙ all-begun [] n links count) i })
+
+-- ---- an end begins anew
+
+pub rebooted : (word : ℕ) (own other empty begun now later : Party) (links : List Link) → links ≡ map (λ (k : Link). link_ready k.tables) own.links → begun ≡ party_begun links → empty ≡ cleared other →
+    record { own = later; other = now } ≡ downs (length empty.links) 1 word (record { own = empty; other = begun }) →
+    record { own = now; other = later } ≡ reboots word (record { own = own; other = other })
+unfolding reboots
+rebooted word own other empty begun now later links links_are begun_is empty_is is =
+    ap turned is
+    ∙ (λ i. turned (downs (length ((empty_is i).links)) 1 word (record { own = empty_is i; other = (begun_is ∙ ap party_begun links_are) i })))

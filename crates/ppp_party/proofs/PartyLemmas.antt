@@ -1,6 +1,6 @@
 -- What an event makes of the two ends: how many links there are, and how much is counted.
-use Rattle.std.proofs.Common.{◌≡◌, ℕ, zero, suc, ◌+◌, ◌*◌, ◌-◌, ◌≤◌, List, [], ◌∷◌, ◌++◌, length, map, take, drop, set, refl, sym, ap, subst, ◌∙◌, arith, length-set}
-use Rattle.std.specs.Prelude.{Option, Some, None, slice_get}
+use Rattle.std.proofs.Common.{◌≡◌, ◌≢◌, ℕ, zero, suc, ◌+◌, ◌*◌, ◌-◌, ◌<◌, ◌≤◌, List, [], ◌∷◌, ◌++◌, length, map, take, drop, set, refl, sym, ap, subst, ◌∙◌, arith, inl, inr, length-set}
+use Rattle.std.specs.Prelude.{◌⊎◌, Option, Some, None, slice_get}
 use Rattle.std.specs.List.{AllByRecursion}
 use Rattle.std.proofs.lemmas.List.{length-map}
 use Rattle.ppp_auto.specs.Auto.{Auto}
@@ -11,13 +11,15 @@ use Rattle.ppp_link.specs.Link.{Link}
 use Rattle.ppp_packet.specs.declared.proto.Proto.{Proto}
 use Rattle.ppp_station.specs.Orders.{Order, Commands, SetsCap, Hears, RejectsProtocol, of_link}
 use Rattle.ppp_station.specs.Station.{link_ready, on_link, stepped_by, with_link}
-use Rattle.ppp_station.specs.StationOut.{Entry}
+use Rattle.ppp_station.specs.StationOut.{AreShort, Entry}
 use Rattle.ppp_station.specs.Steps.{Happening, LineDown, Takes, link_done}
 use Rattle.ppp_duet.specs.Duet.{without}
 use Rattle.ppp_party.specs.Counted.{AreCounted, IsCounted}
 use Rattle.ppp_party.specs.Frame.{Frame, noted_frames}
 use Rattle.ppp_party.specs.Ledger.{Ledger, Ledgers, heard, ledger_at, ledger_begun, ledgers_begun}
 use Rattle.ppp_party.specs.Party.{Ends, Party, IsParty, at_link, cleared, delivers, downs, each_noted, each_queued, first_busy, happens, heard_by, heard_on, heard_packet, loses, party_begun, posted, pushes_on, queued, reboots, room, taking_front, turned, unheard, with_heard}
+use Rattle.ppp_station.proofs.StationLemmas.{other-links}
+use Rattle.ppp_party.proofs.SeatLemmas.{same-or}
 use Rattle.ppp_party.proofs.SendLemmas.{counted-pushes, of-ledgers}
 
 -- ---- how many links
@@ -88,6 +90,11 @@ pub reboots-other : (word : ℕ) (e : Ends) → length (reboots word e).other.li
 unfolding reboots
 reboots-other word e = downs-own (length e.other.links) 1 word (record { own = cleared e.other; other = party_begun (map (λ (k : Link). link_ready k.tables) e.own.links) })
 
+-- ---- the entries of a step
+
+pub entries-of : (what : Happening) (l word : ℕ) (links : List Link) (k : Link) → slice_get links (l - 1) ≡ Some k → (on_link what l links word).out.entries ≡ (link_done what l k word).out
+entries-of what l word links k is = ap (λ o. (stepped_by what l links word o).out.entries) is
+
 -- ---- how much is counted
 
 pub counted-above : (most more : ℕ) (e : Party) → most ≤ more → AreCounted most e → AreCounted more e
@@ -96,6 +103,11 @@ counted-above most more e less all = each e.ledgers all
     each : (gss : List Ledgers) → AllByRecursion (λ gs. IsCounted most gs) gss → AllByRecursion (λ gs. IsCounted more gs) gss
     each [] all = tt
     each (gs ∷ gss) all = ((λ p. let one = all.0 p in omega (arith, one, less)), each gss all.1)
+
+pub counted-at : (most i : ℕ) (gss : List Ledgers) (gs : Ledgers) → AllByRecursion (λ gs. IsCounted most gs) gss → slice_get gss i ≡ Some gs → IsCounted most gs
+counted-at most i [] gs all is = absurd (cc)
+counted-at most zero (x ∷ xs) gs all is = let same : x ≡ gs = cc in subst (λ gs. IsCounted most gs) same all.0
+counted-at most (suc i) (x ∷ xs) gs all is = counted-at most i xs gs all.1 is
 
 noted-counted : (most few m : ℕ) (es : List Entry) (gss : List Ledgers) → length es ≤ few → AllByRecursion (λ gs. IsCounted most gs) gss → AllByRecursion (λ gs. IsCounted (most + few) gs) (each_noted m es gss)
 noted-counted most few m es [] less all = tt
@@ -128,7 +140,7 @@ orders-few g a mark (SetsCap cap ∷ os) = refl
 orders-few g a mark (Hears octets ∷ os) = heard-few g a mark (packet_of octets)
 orders-few g a mark (RejectsProtocol packet ∷ os) = refl
 
-heard-counted : (most word : ℕ) (k : Link) (f : Frame) (gs : Ledgers) → IsCounted most gs → IsCounted most (heard_on k f word gs)
+pub heard-counted : (most word : ℕ) (k : Link) (f : Frame) (gs : Ledgers) → IsCounted most gs → IsCounted most (heard_on k f word gs)
 heard-counted most word k f gs all p =
     let os = of_link p (Takes f.octets) k word in
     let same : ledger_at (heard_on k f word gs) p ≡ heard_by (ledger_at gs p) (auto_at k.automata p) f.mark os =
@@ -200,3 +212,41 @@ cleared-each most (gs ∷ gss) all =
 
 pub cleared-counted : (most : ℕ) (e : Party) → AreCounted most e → AreCounted most (cleared e)
 cleared-counted most e all = cleared-each most e.ledgers all
+
+-- ---- one line after the other goes down
+
+pub downs-next : (all i word : ℕ) (e new whole : Ends) → i < all → new ≡ happens LineDown (i + 1) word e →
+    downs (all - i) (1 + i) word e ≡ whole → downs (all - (i + 1)) (1 + (i + 1)) word new ≡ whole
+downs-next all i word e new whole less is left =
+    let many : all - i ≡ suc (all - (i + 1)) = omega arith in
+    let number : 1 + i ≡ i + 1 = omega arith in
+    let next : 1 + (i + 1) ≡ 1 + i + 1 = omega arith in
+    (λ k. downs (all - (i + 1)) (next k) word ((is ∙ ap (λ l. happens LineDown l word e) (sym number)) k))
+    ∙ ap (λ n. downs n (1 + i) word e) (sym many)
+    ∙ left
+
+not-same : (a b : ℕ) → a ≤ b → a ≢ b → a + 1 ≤ b
+not-same zero zero less other = absurd (other refl)
+not-same zero (suc b) less other = omega arith
+not-same (suc a) zero less other = absurd (omega arith)
+not-same (suc a) (suc b) less other = omega (arith, not-same a b (omega arith) (λ same. other (ap suc same)))
+
+-- what is so of the first lines is so of one more
+pub short-next : (i word m : ℕ) (start now : List Link) (k : Link) → AreShort (on_link LineDown (i + 1) now word).out.entries → ((n : ℕ) → i < n → slice_get now (n - 1) ≡ slice_get start (n - 1)) →
+    ((n : ℕ) (j : Link) → 1 ≤ n → n ≤ i → slice_get start (n - 1) ≡ Some j → AreShort (link_done LineDown n j word).out) →
+    1 ≤ m → m ≤ i + 1 → slice_get start (m - 1) ≡ Some k → AreShort (link_done LineDown m k word).out
+short-next i word m start now k one rest all low high there = by (same-or m (i + 1))
+  where
+    by : (m ≡ i + 1) ⊎ (m ≢ i + 1) → AreShort (link_done LineDown m k word).out
+    by (inr other) = all m k low (omega (arith, not-same m (i + 1) high other)) there
+    by (inl same) =
+        let here : slice_get now (i + 1 - 1) ≡ Some k = rest (i + 1) (omega arith) ∙ ap (λ n. slice_get start (n - 1)) (sym same) ∙ there in
+        subst (λ n. AreShort (link_done LineDown n k word).out) (sym same) (subst (λ es. AreShort es) (entries-of LineDown (i + 1) word now k here) one)
+
+pub rest-next : (i word m : ℕ) (start : List Link) (e new : Ends) → new ≡ happens LineDown (i + 1) word e → ((n : ℕ) → i < n → slice_get e.own.links (n - 1) ≡ slice_get start (n - 1)) →
+    i + 1 < m → slice_get new.own.links (m - 1) ≡ slice_get start (m - 1)
+unfolding happens
+rest-next i word m start e new is rest beyond =
+    ap (λ (e : Ends). slice_get e.own.links (m - 1)) is
+    ∙ other-links LineDown (i + 1) m word e.own.links (omega (arith, beyond)) (λ same. absurd (omega (arith, same, beyond)))
+    ∙ rest m (omega (arith, beyond))

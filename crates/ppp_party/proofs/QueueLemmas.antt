@@ -84,4 +84,3 @@ answers-next p queue i f n now whole marks is least_is marks_are left =
     ∙ ap (least n) (sym (answers-front p f (drop (suc i) queue)))
     ∙ ap (λ xs. least n (answers (only p xs))) (sym (drop-get queue i f is))
     ∙ left
-

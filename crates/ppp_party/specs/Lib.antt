@@ -1,6 +1,7 @@
 pub mod About
 pub mod CarriedRead
 pub mod Counted
+pub mod Downs
 pub mod Events
 pub mod Frame
 pub mod Happening

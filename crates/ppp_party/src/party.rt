@@ -4,6 +4,7 @@ ghost use Rattle.std.specs.Prelude.{◌≡◌, ◌+◌, ◌*◌, ◌-◌, ◌^�
 ghost use Rattle.ppp_conf.specs.EndConfig.{end_seen};
 ghost use Rattle.ppp_party.specs.Counted.{AreCounted};
 ghost use Rattle.ppp_link.specs.Link.{Link};
+ghost use Rattle.ppp_party.specs.Downs.{AreShortDowns};
 ghost use Rattle.ppp_party.specs.Frame as way;
 ghost use Rattle.ppp_party.specs.Happening.{happening_seen};
 ghost use Rattle.ppp_party.specs.Ledger.{ledgers_begun};
@@ -156,20 +157,21 @@ impl Party {
         let Some(frame) = self.incoming[i].pop() else {
             return Ok(());
         };
+        let ledgers = &mut self.ledgers[i];
         take(
             &mut self.station,
             &frame,
             link,
             word,
             &mut desk.out,
-            &mut self.ledgers[i],
+            ledgers,
         );
         post(
             &desk.out,
             &mut desk.reader,
             link,
             frame.mark(),
-            &mut self.ledgers[i],
+            ledgers,
             &mut other.incoming[i],
         )
     }
@@ -189,7 +191,8 @@ impl Party {
         requires few { AreCounted (2 ^ 61) other.old }
         ensures done { OnOk result (record { own = self.new; other = other.new }
             ≡ reboots word (record { own = self.old; other = other.old })) }
-        ensures counted { AreCounted 0 self.new }
+        ensures short { OnOk result (AreShortDowns word other.old.links) }
+        ensures counted { OnOk result (AreCounted 0 self.new) }
         ensures others { (n : ℕ) → AreCounted n other.old → OnOk result (AreCounted (n + 16 * MOST_ENTRIES) other.new) }
     {
         self.station.event(StationEvent::Reset, word, &mut desk.out);
@@ -220,6 +223,7 @@ impl Party {
         requires few { AreCounted (2 ^ 61) self.old }
         ensures done { OnOk result (record { own = self.new; other = other.new }
             ≡ downs (length self.old.links) 1 word (record { own = self.old; other = other.old })) }
+        ensures short { OnOk result (AreShortDowns word self.old.links) }
         ensures counted { (n : ℕ) → AreCounted n self.old → OnOk result (AreCounted (n + 16 * MOST_ENTRIES) self.new) }
     {
         for i in 0..self.station.links() {

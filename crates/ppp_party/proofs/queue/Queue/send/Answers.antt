@@ -1,10 +1,8 @@
 use Rattle.std.proofs.Common.{◌<◌, ◌∙◌, ◌∷◌, ◌++◌, [], length, ap, arith}
-
 use Rattle.ppp_party.specs.Frame.{Frame}
 use Rattle.ppp_party.proofs.QueueLemmas.{full, roomy}
 use Rattle.ppp_party.proofs.ResultLemmas.{on_ok_map}
 use Rattle.ppp_party.proofs.queue.Queue.send.Goals as goal
-
 
 pub returns-then-len-ge-ROOM-clause-ok : goal.returns-then-len-ge-ROOM-clause-ok
 returns-then-len-ge-ROOM-clause-ok c = rw (← c.self.view_is) (full _ _ c.self.invariant (omega arith))
