@@ -1,6 +1,7 @@
 //! One end of a world.
 
 ghost use Rattle.std.specs.Prelude.{◌≡◌, ◌+◌, ◌*◌, ◌-◌, ◌^◌, ◌≤◌, ◌∷◌, ◌++◌, [], ℕ, List, length, map, IfOk, OnOk, Some, slice_get};
+ghost use Rattle.std.specs.Option.{IfSome};
 ghost use Rattle.ppp_conf.specs.EndConfig.{end_seen};
 ghost use Rattle.ppp_party.specs.Counted.{AreCounted};
 ghost use Rattle.ppp_link.specs.Link.{Link};
@@ -96,7 +97,8 @@ impl Party {
 
     /// The first link with a frame under way to the end.
     pub fn first_busy(&self) -> Option<u8>
-        ensures { result ≡ first_busy 1 self.now.incoming }
+        ensures value { result ≡ first_busy 1 self.now.incoming }
+        ensures within { IfSome result (λ l. IsOfLink (length self.now.links) l) }
     {
         for i in 0..self.station.links() {
             if !self.incoming[usize::from(i)].is_empty() {

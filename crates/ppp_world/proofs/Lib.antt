@@ -1,4 +1,5 @@
 pub mod AgreementLemmas
+pub mod CountedLemmas
 pub mod DecidedLemmas
 pub mod DifferenceLemmas
 pub mod ReplayLemmas

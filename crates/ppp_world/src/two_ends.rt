@@ -1,11 +1,11 @@
 //! The two ends of a world and the frames between them.
 
-ghost use Rattle.std.specs.Prelude.{◌≡◌, ◌≤◌, length, OnOk, IfOk};
+ghost use Rattle.std.specs.Prelude.{◌≡◌, ◌+◌, ◌^◌, ℕ, length, OnOk, IfOk};
 ghost use Rattle.ppp_conf.specs.Config.{config_seen};
-ghost use Rattle.ppp_party.specs.Counted.{most_sent, AreCounted};
+ghost use Rattle.ppp_party.specs.Counted.{AreCounted};
 ghost use Rattle.ppp_party.specs.Party.{ends_begun};
 ghost use Rattle.ppp_world.specs.Step.{moved, next_delivery, party_at, word_of, IsLinked, IsShort};
-ghost use Rattle.ppp_world.specs.World.{BothBegin};
+ghost use Rattle.ppp_world.specs.World.{most_a_step, BothBegin};
 
 use crate::step::Step;
 use ppp_conf::Config;
@@ -48,10 +48,12 @@ impl TwoEnds {
     pub(crate) fn does(&mut self, step: Step, number: u32) -> Result<(), Memory>
         requires linked { IsLinked (length self.old.own.links) step }
         requires alike { length self.old.other.links ≡ length self.old.own.links }
-        requires few_a { AreCounted most_sent self.old.own }
-        requires few_b { AreCounted most_sent self.old.other }
+        requires few_a { AreCounted (2 ^ 61) self.old.own }
+        requires few_b { AreCounted (2 ^ 61) self.old.other }
         ensures done { OnOk result (self.new ≡ moved number self.old step) }
         ensures short { IsShort number self.old step }
+        ensures counted_a { (n : ℕ) → AreCounted n self.old.own → OnOk result (AreCounted (n + most_a_step) self.new.own) }
+        ensures counted_b { (n : ℕ) → AreCounted n self.old.other → OnOk result (AreCounted (n + most_a_step) self.new.other) }
     {
         match step {
             Step::Happens(End::A, link, what) => {
