@@ -4,7 +4,7 @@ pub mod HeldLemmas
 mod HeardLemmas
 mod KeptLemmas
 mod LedgerLemmas
-mod ListLemmas
+pub mod ListLemmas
 mod LoneLemmas
 mod OrderLemmas
 pub mod PartyLemmas

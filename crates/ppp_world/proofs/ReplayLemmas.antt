@@ -1,20 +1,23 @@
 -- The replay of a script, event by event.
-use Rattle.std.proofs.Common.{◌≡◌, ℕ, ◌+◌, ◌≤◌, List, [], ◌∷◌, refl, sym, ◌∙◌, ap, arith}
+use Rattle.std.proofs.Common.{◌≡◌, ℕ, ◌+◌, ◌≤◌, List, [], ◌∷◌, refl, sym, ◌∙◌, ap, subst, arith}
 use Rattle.std.specs.Prelude.{Option, Some, None, Result, Ok, Err, IfOk, IsSome}
 use Rattle.std.proofs.lemmas.List.Elements.{All-nil}
 use Rattle.std.proofs.lemmas.List.Sums.{sum_by-cons}
+use Rattle.ppp_conf.specs.Config.{Settings as Config}
 use Rattle.ppp_link.specs.Link.{Link}
 use Rattle.ppp_script.specs.Event.{steps_in, steps_in_all}
 use Rattle.ppp_script.specs.declared.script.TheConstants.{MOST_STEPS}
 use Rattle.ppp_script.specs.declared.event.Event.{Event}
 use Rattle.ppp_world.specs.Refusal.{refusal_in}
 use Rattle.ppp_world.specs.Run.{Moment, run_from, run_of, place_after, place_begun, moments_of, report, refusal, before_refusal, AgreeEverywhere, AgreeThroughout}
-use Rattle.ppp_world.specs.World.{World, world_begun, world_after, answer_of, place_of, UnlessMemory}
+use Rattle.ppp_world.specs.Replay.{IsReplay}
+use Rattle.ppp_world.specs.World.{BothBegin, IsBegun, World, world_begun, world_after, answer_of, place_of, UnlessMemory}
 use Rattle.ppp_world.specs.declared.outstanding.Outstanding.{Outstanding as Outstanding'}
 use Rattle.ppp_world.specs.declared.refusal.Refusal.{Refusal}
 use Rattle.ppp_world.specs.declared.world_fault.WorldFault.{WorldFault}
 use Rattle.ppp_world.specs.declared.world_fault.WorldFault.TheVariants.{Memory, Outstanding}
 use Rattle.ppp_world.proofs.RunLemmas.{linked_event, linked_run}
+use Rattle.ppp_world.proofs.SoundLemmas.{agree-begun}
 use Rattle.ppp_world.proofs.WorldLemmas.{SoFar, agreed-moments, place_all, world_after_all, run_is, becomes, Becomes, halt_of, halted_moments, IsNextAfter, before_refusal-none}
 
 follows : (own other : List Link) (events : List Event) → Becomes (world_begun own other) (run_of own other events) (world_after_all (world_begun own other) events)
@@ -142,3 +145,62 @@ none_is (Some x) some none = absurd (cc)
 pub if_ok_all : {X E : Type 0} {P Q R S : X → Type 0} (r : Result X E) → IfOk r P → IfOk r Q → IfOk r R → ((x : X) → P x → Q x → R x → S x) → IfOk r S
 if_ok_all (Ok x) p q r all = all x p q r
 if_ok_all (Err e) p q r all = tt
+
+-- ---- by the settings
+
+-- the same, for some stations that begin by the settings
+pub record Replays (c : Config) (all : List Event) (now : World) (rest : List Event) : Type 0 where
+  pub own : List Link
+  pub other : List Link
+  pub begin : BothBegin c own other
+  pub on : ReplaysOn own other all now rest
+
+pub replays-begun : (c : Config) (all : List Event) (w : World) → IsBegun c w → steps_in_all all ≤ MOST_STEPS → Replays c all w all
+replays-begun c all w begun few = record {
+  own = w.ends.own.links;
+  other = w.ends.other.links;
+  begin = begun.begin;
+  on = subst (λ now. ReplaysOn w.ends.own.links w.ends.other.links all now all) (sym begun.is) (replays_first w.ends.own.links w.ends.other.links all few);
+}
+
+pub replays-next : (c : Config) (all : List Event) (now next : World) (rest more : List Event) (event : Event) (answer : Result (Unit {0}) WorldFault) → rest ≡ event ∷ more →
+    answer ≡ answer_of next.halt → answer ≡ Ok tt → UnlessMemory next.halt (next ≡ world_after now event) → next.steps ≤ now.steps + steps_in event →
+    (now.halt ≡ None → UnlessMemory next.halt (AgreeThroughout (before_refusal (moments_of event (place_of now))))) → Replays c all now rest → Replays c all next more
+replays-next c all now next rest more event answer is answers ok done steps agreed far = record {
+  own = far.own;
+  other = far.other;
+  begin = far.begin;
+  on = replays_next far.own far.other all now next rest more event answer is answers ok done steps agreed far.on;
+}
+
+pub replays-room : (c : Config) (all : List Event) (now : World) (rest more : List Event) (event : Event) → rest ≡ event ∷ more → Replays c all now rest → now.steps + steps_in event ≤ MOST_STEPS
+replays-room c all now rest more event is far = replays_room far.own far.other all now rest more event is far.on
+
+pub replays-all : (c : Config) (all : List Event) (now : World) (octets : List ℕ) → c.a.links ≡ c.b.links → octets ≡ now.report → Replays c all now [] → IsReplay c all octets None
+replays-all c all now octets same told far =
+    let did = replays_all far.own far.other all now far.on in
+    record {
+      own = far.own;
+      other = far.other;
+      begin = far.begin;
+      reported = told ∙ did.0;
+      whole = λ none. told ∙ did.2;
+      stopped = did.1;
+      agreement = record { first = agree-begun c far.own far.other same far.begin; each = did.3 };
+    }
+
+pub replays-stopped : (c : Config) (all : List Event) (now next : World) (rest more : List Event) (event : Event) (answer : Result (Unit {0}) WorldFault) (why : WorldFault) (refused : Option Refusal) (octets : List ℕ) →
+    c.a.links ≡ c.b.links → rest ≡ event ∷ more → answer ≡ answer_of next.halt → answer ≡ Err why → UnlessMemory next.halt (next ≡ world_after now event) →
+    (now.halt ≡ None → UnlessMemory next.halt (AgreeThroughout (before_refusal (moments_of event (place_of now))))) → Replays c all now rest →
+    octets ≡ next.report → refused ≡ refusal_in (next.steps + 1) why → IsSome refused → IsReplay c all octets refused
+replays-stopped c all now next rest more event answer why refused octets same is answers err done agreed far told refused_is some =
+    let did = replays_stopped far.own far.other all now next rest more event answer why refused is answers err done agreed far.on refused_is some in
+    record {
+      own = far.own;
+      other = far.other;
+      begin = far.begin;
+      reported = told ∙ did.0;
+      whole = λ none. absurd (none_is refused some none);
+      stopped = did.1;
+      agreement = record { first = agree-begun c far.own far.other same far.begin; each = did.2 };
+    }

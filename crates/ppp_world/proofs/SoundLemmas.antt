@@ -1,5 +1,5 @@
 -- What a world keeps, each step keeps that isn't refused; and where a step can make a span too wide.
-use Rattle.std.proofs.Common.{inl, inr, ◌≡◌, ℕ, zero, suc, ◌+◌, ◌-◌, ◌*◌, ◌≤◌, ◌<◌, List, [], ◌∷◌, length, refl, sym, ap, ◌∙◌, subst, arith}
+use Rattle.std.proofs.Common.{inl, inr, ◌≡◌, ℕ, zero, suc, ◌+◌, ◌-◌, ◌*◌, ◌^◌, ◌≤◌, ◌<◌, List, [], ◌∷◌, length, refl, sym, ap, ◌∙◌, subst, arith}
 use Rattle.std.specs.Prelude.{◌≢◌, Option, Some, None, map, slice_get}
 use Rattle.std.specs.List.{AllByRecursion}
 use Rattle.std.proofs.lemmas.List.{length-map}
@@ -18,9 +18,10 @@ use Rattle.ppp_party.specs.Seat.{IsNoFrame}
 use Rattle.ppp_party.specs.declared.happening.Happening.{Happening}
 use Rattle.ppp_party.specs.declared.happening.Happening.TheVariants as what
 use Rattle.ppp_party.proofs.HeldLemmas.{begins-held, happens-held, delivers-held, loses-held, reboots-held, turned-held}
-use Rattle.ppp_party.proofs.PartyLemmas.{happens-own, happens-other, delivers-own, delivers-other, loses-own, loses-other, reboots-own, reboots-other}
+use Rattle.ppp_party.proofs.PartyLemmas.{counted-above, happens-own, happens-other, delivers-own, delivers-other, loses-own, loses-other, reboots-own, reboots-other}
 use Rattle.ppp_party.proofs.SeatLemmas.{same-or}
 use Rattle.ppp_script.specs.declared.end.End.{End}
+use Rattle.ppp_script.specs.declared.script.TheConstants.{MOST_STEPS}
 use Rattle.ppp_script.specs.declared.end.End.TheVariants.{A, B}
 use Rattle.ppp_station.specs.Station.{BeginsBy, IsOfLink, IsReady, all_settings, on_link}
 use Rattle.ppp_station.specs.StationOut.{AreShort}
@@ -137,6 +138,7 @@ taken-short l word party short f rest front = rw front at short
 
 -- what is so of the two ends after a step, as a and b stand
 pub record After (step : Step) (e after : Ends) : Type 0 where
+  pub long : length after.own.links ≡ length e.own.links
   pub kept : IsKept after
   pub widens : (before : Ordinals) → AreOrdinalsFor step e before → MayWiden step before after
 
@@ -152,15 +154,17 @@ quiet-than : (l : ℕ) (before : Ordinals) (old new : Party) → AreOrdinals l o
 quiet-than l before old new are none p = omega (arith, are p, none p)
 
 on-a : (l : ℕ) (e after : Ends) → length e.other.links ≡ length e.own.links → IsOfLink (length e.own.links) l → StepOn l e after →
-    IsKept after × ((before : Ordinals) → AreOrdinals l e.own before → WidensOn A l before after)
+    (length after.own.links ≡ length e.own.links) × IsKept after × ((before : Ordinals) → AreOrdinals l e.own before → WidensOn A l before after)
 on-a l e after alike is step = (
+  step.own_long,
   kept-after l e after alike step,
   λ before are. widens-on A l before after is.0 (omega (arith, is.1, step.own_long)) (narrow-elsewhere l e after step) (λ none. narrow-quiet l e after step (quiet-than l before e.own after.own are none)),
 )
 
 on-b : (l : ℕ) (e after : Ends) → length e.other.links ≡ length e.own.links → IsOfLink (length e.own.links) l → StepOn l (turned e) after →
-    IsKept (turned after) × ((before : Ordinals) → AreOrdinals l e.other before → WidensOn B l before (turned after))
+    (length after.other.links ≡ length e.own.links) × IsKept (turned after) × ((before : Ordinals) → AreOrdinals l e.other before → WidensOn B l before (turned after))
 on-b l e after alike is step = (
+  step.other_long,
   kept-turned after (kept-after l (turned e) after (sym alike) step),
   λ before are. widens-on B l before (turned after) is.0 (omega (arith, is.1, alike, step.other_long))
       (λ m p above below other. narrow-turned m p after (narrow-elsewhere l (turned e) after step m p above (omega (arith, below, step.own_long, step.other_long, alike)) other))
@@ -185,27 +189,27 @@ rebooted word e k =
 
 pub step-after : (k steps : ℕ) (e : Ends) (step : Step) → IsSound e steps → IsLinked (length e.own.links) step → IsShort k e step → After step e (moved k e step)
 step-after k steps e (Happens A l what) s is short =
-    let did = on-a l e _ s.alike is (happens-on e steps s l is what (word_of A k) short) in record { kept = did.0; widens = did.1 }
+    let did = on-a l e _ s.alike is (happens-on e steps s l is what (word_of A k) short) in record { long = did.0; kept = did.1; widens = did.2 }
 step-after k steps e (Happens B l what) s is short =
-    let did = on-b l e _ s.alike is (happens-on (turned e) steps (sound-turned e steps s) l (is.0, omega (arith, is.1, s.alike)) what (word_of B k) short) in record { kept = did.0; widens = did.1 }
+    let did = on-b l e _ s.alike is (happens-on (turned e) steps (sound-turned e steps s) l (is.0, omega (arith, is.1, s.alike)) what (word_of B k) short) in record { long = did.0; kept = did.1; widens = did.2 }
 step-after k steps e (Delivers A l) s is short =
-    let did = on-a l e _ s.alike is (delivers-on e steps s l is (word_of A k) (taken-short l (word_of A k) e.own short)) in record { kept = did.0; widens = did.1 }
+    let did = on-a l e _ s.alike is (delivers-on e steps s l is (word_of A k) (taken-short l (word_of A k) e.own short)) in record { long = did.0; kept = did.1; widens = did.2 }
 step-after k steps e (Delivers B l) s is short =
     let did = on-b l e _ s.alike is (delivers-on (turned e) steps (sound-turned e steps s) l (is.0, omega (arith, is.1, s.alike)) (word_of B k) (taken-short l (word_of B k) e.other short)) in
-    record { kept = did.0; widens = did.1 }
+    record { long = did.0; kept = did.1; widens = did.2 }
 step-after k steps e (Loses A l place) s is short =
     let step = loses-on e steps s l is place in
-    record { kept = kept-after l e _ s.alike step; widens = λ before are. none-outstanding _ (lost-narrow l place e step) }
+    record { long = step.own_long; kept = kept-after l e _ s.alike step; widens = λ before are. none-outstanding _ (lost-narrow l place e step) }
 step-after k steps e (Loses B l place) s is short =
     let step = loses-on (turned e) steps (sound-turned e steps s) l (is.0, omega (arith, is.1, s.alike)) place in
     let kept = kept-after l (turned e) _ (sym s.alike) step in
-    record { kept = kept-turned _ kept; widens = λ before are. none-outstanding _ (turned-narrow _ kept.alike (lost-narrow l place (turned e) step)) }
-step-after k steps e (Reboots A) s is short = record { kept = rebooted (word_of B k) e (record { alike = s.alike; held = s.held }); widens = λ before are. tt }
+    record { long = step.other_long; kept = kept-turned _ kept; widens = λ before are. none-outstanding _ (turned-narrow _ kept.alike (lost-narrow l place (turned e) step)) }
+step-after k steps e (Reboots A) s is short = record { long = reboots-own (word_of B k) e; kept = rebooted (word_of B k) e (record { alike = s.alike; held = s.held }); widens = λ before are. tt }
 step-after k steps e (Reboots B) s is short =
     let t = sound-turned e steps s in
-    record { kept = kept-turned _ (rebooted (word_of A k) (turned e) (record { alike = t.alike; held = t.held })); widens = λ before are. tt }
-step-after k steps e Reports s is short = record { kept = record { alike = s.alike; held = s.held }; widens = λ before are. none-outstanding e s.narrow }
-step-after k steps e Rests s is short = record { kept = record { alike = s.alike; held = s.held }; widens = λ before are. none-outstanding e s.narrow }
+    record { long = reboots-other (word_of A k) (turned e); kept = kept-turned _ (rebooted (word_of A k) (turned e) (record { alike = t.alike; held = t.held })); widens = λ before are. tt }
+step-after k steps e Reports s is short = record { long = refl; kept = record { alike = s.alike; held = s.held }; widens = λ before are. none-outstanding e s.narrow }
+step-after k steps e Rests s is short = record { long = refl; kept = record { alike = s.alike; held = s.held }; widens = λ before are. none-outstanding e s.narrow }
 
 pub sound-after : (k steps : ℕ) (e after : Ends) (step : Step) → after ≡ moved k e step → IsSound e steps → IsLinked (length e.own.links) step → IsShort k e step → outstanding_in after ≡ None →
     AreCounted (most_a_step * (steps + 1)) after.own → AreCounted (most_a_step * (steps + 1)) after.other → IsSound after (steps + 1)
@@ -279,3 +283,27 @@ sound-begun c own other same begin =
       counted_a = counted-begun (most_a_step * 0) own;
       counted_b = counted-begun (most_a_step * 0) other;
     }
+
+-- ---- what the code of a step asks
+
+-- the ordinals are within what their machine numbers hold
+pub few-sent : (steps : ℕ) (p : Party) → steps + 1 ≤ MOST_STEPS → AreCounted (most_a_step * steps) p → AreCounted (2 ^ 61) p
+few-sent steps p few counted = counted-above (most_a_step * steps) (2 ^ 61) p (omega (arith, few)) counted
+
+counted-next : (steps : ℕ) (p : Party) → AreCounted (most_a_step * steps + most_a_step) p → AreCounted (most_a_step * (steps + 1)) p
+counted-next steps p counted = counted-above (most_a_step * steps + most_a_step) (most_a_step * (steps + 1)) p (omega arith) counted
+
+pub sound-done : (k steps : ℕ) (e after : Ends) (step : Step) → after ≡ moved k e step → IsSound e steps → IsLinked (length e.own.links) step → IsShort k e step → outstanding_in after ≡ None →
+    AreCounted (most_a_step * steps + most_a_step) after.own → AreCounted (most_a_step * steps + most_a_step) after.other → IsSound after (steps + 1)
+sound-done k steps e after step same s is short none counted_a counted_b =
+    sound-after k steps e after step same s is short none (counted-next steps after.own counted_a) (counted-next steps after.other counted_b)
+
+linked-still : (before after : ℕ) (step : Step) → after ≡ before → IsLinked before step → IsLinked after step
+linked-still before after step same is = rw same is
+
+-- the two ends are alike still, the step's link is there, and a span can be too wide only where the step may have widened it
+pub after-moved : (k steps : ℕ) (e after : Ends) (step : Step) (before : Ordinals) → after ≡ moved k e step → IsSound e steps → IsLinked (length e.own.links) step → IsShort k e step →
+    AreOrdinalsFor step e before → (length after.other.links ≡ length after.own.links) × IsLinked (length after.own.links) step × MayWiden step before after
+after-moved k steps e after step before same s is short are =
+    let did = subst (After step e) (sym same) (step-after k steps e step s is short) in
+    (did.kept.alike, linked-still (length e.own.links) (length after.own.links) step did.long is, did.widens before are)

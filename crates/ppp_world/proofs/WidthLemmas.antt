@@ -1,7 +1,9 @@
 -- No span is refused where none is too wide, and the search for one may leave out what is narrow.
 use Rattle.std.proofs.Common.{inl, inr, ◌≡◌, ◌⊎◌, ℕ, zero, suc, ◌+◌, ◌-◌, ◌≤◌, ◌<◌, Bool, true, false, List, [], ◌∷◌, length, drop, refl, sym, ap, ◌∙◌, subst, arith}
-use Rattle.std.specs.Prelude.{◌≢◌, Option, Some, None, nat_lt, if◌then◌else◌}
+use Rattle.std.specs.Prelude.{◌≢◌, get_or, Option, Some, None, nat_lt, if◌then◌else◌}
+use Rattle.std.proofs.Math.ListN.{drop_of_length-le}
 use Rattle.std.proofs.lemmas.Bool.Decides.{nat_tests}
+use Rattle.std.proofs.lemmas.List.{drop_more}
 use Rattle.ppp_duet.specs.Span.{widest}
 use Rattle.ppp_packet.specs.declared.proto.Proto.{Proto}
 use Rattle.ppp_packet.specs.declared.proto.Proto.TheVariants.{Lcp, Ip, Ipv6, Osi, Mpls, Bacp}
@@ -147,5 +149,11 @@ found-link name links i e fault below some =
     let left : links - i ≡ suc (links - (i + 1)) = omega arith in
     ap (λ more. outstanding_from name more (i + 1) e) left ∙ ap (λ x. or_else x (outstanding_from name (links - (i + 1)) (i + 1 + 1) e)) some
 
-pub wide-or-narrow : (n least : ℕ) → n ≤ widest → nat_lt widest (n - least) ≡ false
-wide-or-narrow n least few = grind (arith, nat_tests)
+pub next-protocol : {X : Type 0} (f : Proto → Option X) (i : ℕ) (d : Proto) → i < 6 → f (get_or protocols i d) ≡ None → first_among f (drop i protocols) ≡ first_among f (drop (i + 1) protocols)
+next-protocol f i d few none = ap (first_among f) (drop_more protocols i d few) ∙ none-front (f (get_or protocols i d)) (first_among f (drop (i + 1) protocols)) none
+
+pub found-protocol : {X : Type 0} (f : Proto → Option X) (i : ℕ) (d : Proto) (x : X) → i < 6 → f (get_or protocols i d) ≡ Some x → first_among f (drop i protocols) ≡ Some x
+found-protocol f i d x few some = ap (first_among f) (drop_more protocols i d few) ∙ ap (λ o. or_else o (first_among f (drop (i + 1) protocols))) some
+
+pub no-protocol : {X : Type 0} (f : Proto → Option X) (i : ℕ) → 6 ≤ i → first_among f (drop i protocols) ≡ None
+no-protocol f i all = ap (first_among f) (drop_of_length-le protocols all)

@@ -230,6 +230,7 @@ fn go(
 /// Writes what is reported after the step of that number.
 fn show(report: &mut String, number: u32, step: Step, ends: &TwoEnds) -> Result<(), Memory>
     requires alike { length ends.now.other.links ≡ length ends.now.own.links }
+    requires agreed { AgreeEverywhere ends.now }
     ensures { OnOk result (string_bytes report.new ≡ string_bytes report.old ++ shown_at number ends.now step) }
 {
     match step {
