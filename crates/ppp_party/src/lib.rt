@@ -30,3 +30,6 @@ pub use desk::Desk;
 pub use happening::Happening;
 pub use party::Party;
 pub use ppp_memory::Memory;
+
+#[cfg(test)]
+mod tests;
