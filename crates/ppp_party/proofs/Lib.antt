@@ -1,4 +1,4 @@
-pub mod DoneLemmas
+mod DoneLemmas
 mod HeardLemmas
 mod KeptLemmas
 mod LedgerLemmas

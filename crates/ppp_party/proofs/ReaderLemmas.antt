@@ -1,5 +1,5 @@
 -- What a deframer lends doesn't hang on what it lent before.
-use Rattle.std.proofs.Common.{◌≡◌, ℕ, Bool, true, false, List, [], ◌∷◌, refl, ap, ◌∙◌}
+use Rattle.std.proofs.Common.{◌≡◌, ℕ, Bool, true, false, List, [], ◌∷◌, refl}
 use Rattle.ppp_frame.specs.declared.escapes.TheConstants.{FLAG}
 use Rattle.ppp_frame.specs.Deframer.{DeframerState, feed_step}
 use Rattle.ppp_frame.specs.Standing.{fresh, is_fresh}

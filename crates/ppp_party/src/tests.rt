@@ -41,11 +41,11 @@ fn loses_what_finds_no_room(rt: HostRuntime) -> Result<(), Fail> {
     let mut reader = make_reader(rt.alloc())?;
     let mut ledgers = Ledgers::new(rt.alloc());
     let mut queue = Queue::new(rt.alloc());
-    for _ in 0..1030 {
+    'posts: for _ in 0..1030_usize {
         post_frame(REQUEST, &mut reader, 0, &mut ledgers, &mut queue)?;
     }
-    let mut waiting = 0;
-    for _ in 0..1030 {
+    let mut waiting = 0_usize;
+    'pops: for _ in 0..1030_usize {
         if queue.pop().is_some() {
             waiting += 1;
         }

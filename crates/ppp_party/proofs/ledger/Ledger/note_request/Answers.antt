@@ -2,7 +2,7 @@ use Rattle.std.proofs.Common.{◌≡◌, ◌≢◌, ℕ, ◌+◌, ◌∙◌, Lis
 use Rattle.std.proofs.lemmas.Bool.Decides.{nat_tests}
 use Rattle.std.specs.Prelude.{Result, Ok, Err, OnOk}
 use Rattle.ppp_packet.specs.ConfigOption.{ConfigOption}
-use Rattle.ppp_packet.specs.Options.{HoldsOptions, list_of}
+use Rattle.ppp_packet.specs.Options.{list_of}
 use Rattle.ppp_packet.proofs.OptionLemmas.{HoldsOptions-written, list_of-written}
 use Rattle.ppp_party.specs.Ledger.{Ledger, last_of, noted_request}
 use Rattle.ppp_party.proofs.ledger.Ledger.note_request.Goals as goal
