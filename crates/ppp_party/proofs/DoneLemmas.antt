@@ -1,6 +1,6 @@
 -- What the code of an end does, link by link, is what the definitions say of all its links.
-use Rattle.std.proofs.Common.{◌≡◌, ℕ, zero, suc, ◌+◌, ◌-◌, ◌<◌, ◌≤◌, List, [], ◌∷◌, ◌++◌, length, map, set, get_or, replicate, refl, sym, ap, subst, ◌∙◌, arith, length-set}
-use Rattle.std.specs.Prelude.{Option, Some, None, slice_get}
+use Rattle.std.proofs.Common.{◌≡◌, ℕ, zero, suc, ◌-◌, ◌<◌, ◌≤◌, List, [], ◌∷◌, ◌++◌, length, map, set, get_or, replicate, refl, sym, ap, subst, ◌∙◌, arith, length-set}
+use Rattle.std.specs.Prelude.{Some, slice_get}
 use Rattle.std.specs.List.{AllByRecursion}
 use Rattle.std.proofs.lemmas.List.{get_or-set_same, length-map, set-get_or, set-set}
 use Rattle.std.proofs.lemmas.Option.{slice_get_read}
@@ -10,11 +10,11 @@ use Rattle.ppp_link.specs.Link.{Link}
 use Rattle.ppp_packet.specs.declared.proto.Proto.{Proto}
 use Rattle.ppp_station.specs.Station.{link_ready, on_link}
 use Rattle.ppp_station.specs.StationOut.{Out}
-use Rattle.ppp_station.specs.Steps.{Happening, LineDown, Takes}
+use Rattle.ppp_station.specs.Steps.{Happening, Takes}
 use Rattle.ppp_party.specs.Frame.{Frame, marked_frames, noted_frames, only}
-use Rattle.ppp_party.specs.Ledger.{Ledger, Ledgers, ledger_at, ledgers_begun}
-use Rattle.ppp_party.specs.Party.{Ends, Party, IsParty, at_link, cleared, delivers, downs, happens, heard_on, loses, party_begun, posted, pushes_on, queued, reboots, room, taking_front, turned, with_heard}
-use Rattle.ppp_party.specs.Spans.{ledger_if, oldest_on, queue_if, sent_on}
+use Rattle.ppp_party.specs.Ledger.{Ledgers, ledgers_begun}
+use Rattle.ppp_party.specs.Party.{Party, IsParty, cleared, delivers, downs, happens, heard_on, loses, party_begun, posted, pushes_on, queued, reboots, room, taking_front, turned, with_heard}
+use Rattle.ppp_party.specs.Spans.{oldest_on, queue_if, sent_on}
 use Rattle.ppp_party.proofs.ListLemmas.{at-set}
 use Rattle.ppp_party.proofs.QueueLemmas.{least-behind}
 use Rattle.ppp_party.proofs.SendLemmas.{posted-set}

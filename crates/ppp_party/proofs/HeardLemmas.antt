@@ -5,7 +5,7 @@ use Rattle.ppp_auto.specs.Auto.{Auto, is_opened}
 use Rattle.ppp_auto.specs.Packet.{Packet, packet_of}
 use Rattle.ppp_frame.specs.Deframer.{DeframerState, feed_step}
 use Rattle.ppp_frame.specs.Header.{Read}
-use Rattle.ppp_link.specs.Automata.{Automata, auto_at, is_there}
+use Rattle.ppp_link.specs.Automata.{Automata, auto_at}
 use Rattle.ppp_link.specs.Link.{Link, fed_with, read_by}
 use Rattle.ppp_link.specs.LinkOut.{Entry as LinkTold}
 use Rattle.ppp_link.specs.LinkOut as told
@@ -16,7 +16,7 @@ use Rattle.ppp_packet.specs.declared.proto.Proto.{Proto}
 use Rattle.ppp_packet.specs.declared.proto.Proto.TheVariants.{Lcp, Ip, Ipv6, Osi, Mpls, Bacp}
 use Rattle.ppp_auto.specs.declared.auto_event.AutoEvent.{AutoEvent}
 use Rattle.ppp_auto.specs.declared.auto_event.AutoEvent.TheVariants.{RejectedWell, RejectedBadly}
-use Rattle.ppp_station.specs.Orders.{Order, Commands, SetsCap, Hears, RejectsProtocol, caps_after, is_same, of_frame, of_frame_for, of_given, of_other, of_packet, of_read, of_rejected, of_rejected_there, own_order, rejects_as}
+use Rattle.ppp_station.specs.Orders.{Order, Commands, caps_after, is_same, of_frame, of_frame_for, of_given, of_other, of_packet, of_read, of_rejected, of_rejected_there, rejects_as}
 use Rattle.ppp_station.specs.Station.{on_link}
 use Rattle.ppp_station.specs.StationOut.{Got}
 use Rattle.ppp_station.specs.Steps.{Done, Takes, and_tells, is_opened_at, link_does, link_done, opener_of, runs, works, works_one}

@@ -1,7 +1,7 @@
 pub mod DoneLemmas
 mod DownLemmas
-pub mod HeldLemmas
 mod HeardLemmas
+pub mod HeldLemmas
 mod KeptLemmas
 mod LedgerLemmas
 pub mod ListLemmas

@@ -1,5 +1,5 @@
 -- What an event makes of the two ends: how many links there are, and how much is counted.
-use Rattle.std.proofs.Common.{◌≡◌, ◌≢◌, ℕ, zero, suc, ◌+◌, ◌*◌, ◌-◌, ◌<◌, ◌≤◌, List, [], ◌∷◌, ◌++◌, length, map, take, drop, set, refl, sym, ap, subst, ◌∙◌, arith, inl, inr, length-set}
+use Rattle.std.proofs.Common.{◌≡◌, ◌≢◌, ℕ, zero, suc, ◌+◌, ◌-◌, ◌<◌, ◌≤◌, List, [], ◌∷◌, length, map, refl, sym, ap, subst, ◌∙◌, arith, inl, inr}
 use Rattle.std.specs.Prelude.{◌⊎◌, Option, Some, None, slice_get}
 use Rattle.std.specs.List.{AllByRecursion}
 use Rattle.std.proofs.lemmas.List.{length-map}
@@ -8,16 +8,14 @@ use Rattle.ppp_auto.specs.Packet.{Packet, Request, Ack, Nak, Reject, Other, pack
 use Rattle.ppp_auto.specs.declared.auto_state.AutoState.{AutoState}
 use Rattle.ppp_link.specs.Automata.{auto_at}
 use Rattle.ppp_link.specs.Link.{Link}
-use Rattle.ppp_packet.specs.declared.proto.Proto.{Proto}
 use Rattle.ppp_station.specs.Orders.{Order, Commands, SetsCap, Hears, RejectsProtocol, of_link}
 use Rattle.ppp_station.specs.Station.{link_ready, on_link, stepped_by, with_link}
 use Rattle.ppp_station.specs.StationOut.{AreShort, Entry}
 use Rattle.ppp_station.specs.Steps.{Happening, LineDown, Takes, link_done}
-use Rattle.ppp_duet.specs.Duet.{without}
 use Rattle.ppp_party.specs.Counted.{AreCounted, IsCounted}
-use Rattle.ppp_party.specs.Frame.{Frame, noted_frames}
+use Rattle.ppp_party.specs.Frame.{Frame}
 use Rattle.ppp_party.specs.Ledger.{Ledger, Ledgers, heard, ledger_at, ledger_begun, ledgers_begun}
-use Rattle.ppp_party.specs.Party.{Ends, Party, IsParty, at_link, cleared, delivers, downs, each_noted, each_queued, first_busy, happens, heard_by, heard_on, heard_packet, loses, party_begun, posted, pushes_on, queued, reboots, room, taking_front, turned, unheard, with_heard}
+use Rattle.ppp_party.specs.Party.{Ends, Party, at_link, cleared, delivers, downs, each_noted, happens, heard_by, heard_on, heard_packet, loses, party_begun, reboots, taking_front, unheard, with_heard}
 use Rattle.ppp_station.proofs.StationLemmas.{other-links}
 use Rattle.ppp_party.proofs.SeatLemmas.{same-or}
 use Rattle.ppp_party.proofs.SendLemmas.{counted-pushes, of-ledgers}

@@ -15,7 +15,7 @@ use Rattle.ppp_station.specs.StationOut.{Entry, Push, Got, Hang}
 use Rattle.ppp_station.specs.Steps.{Happening, link_done}
 use Rattle.ppp_party.specs.Counted.{IsCounted}
 use Rattle.ppp_party.specs.Frame.{Carried, Frame, carried, carried_by, mark_by, marked_frames, noted_by, noted_frames, noted_if, packet_for}
-use Rattle.ppp_party.specs.Ledger.{Ledger, Ledgers, ledger_at, ledgers_by, noted}
+use Rattle.ppp_party.specs.Ledger.{Ledger, Ledgers, ledger_at, ledger_begun, ledgers_begun, ledgers_by, noted}
 use Rattle.ppp_party.specs.Party.{Ends, each_noted, each_queued, posted, push_on, pushes_on, queued, room}
 use Rattle.ppp_party.proofs.ListLemmas.{drop-get}
 use Rattle.ppp_party.proofs.SentLemmas.{done-framed, none-elsewhere}
@@ -227,3 +227,14 @@ nothing-posted l mark gs queue e none few = sym (ap (λ frames. queued queue (ma
 
 pub nothing-noted : (l : ℕ) (gs : Ledgers) (e : Entry) → push_on l e ≡ [] → gs ≡ noted_frames gs (push_on l e)
 nothing-noted l gs e none = sym (ap (noted_frames gs) none)
+
+-- ---- ledgers that begin, and one frame more
+
+pub counted-begun : IsCounted 0 ledgers_begun
+counted-begun p = let e = of-ledgers (λ p. ledger_begun) p in omega (arith, ap (λ (g : Ledger). g.n) e)
+
+pub counted-frame : (most : ℕ) (gs : Ledgers) (octets : List ℕ) → IsCounted most gs → IsCounted (most + 1) (noted_frames gs (octets ∷ []))
+counted-frame most gs octets all p =
+    let one = all p in
+    let few = by-few gs (carried octets) p in
+    omega (arith, one, few)

@@ -1,5 +1,5 @@
 -- What is heard of a frame, from what a link lends of it, and the states of its automata before.
-use Rattle.std.specs.Prelude.{ℕ, Bool, true, false, ◌||◌, if◌then◌else◌, Option, Some, None, option_map}
+use Rattle.std.specs.Prelude.{ℕ, Bool, false, ◌||◌, if◌then◌else◌, Option, Some, None, option_map}
 use Rattle.ppp_auto.specs.Auto.{is_opened}
 use Rattle.ppp_auto.specs.Packet.{Packet}
 use Rattle.ppp_auto.specs.declared.auto_state.AutoState.{AutoState}

@@ -93,7 +93,7 @@ fn post_entry(
 }
 
 /// Notes a frame and puts it into a queue.
-fn post_frame(
+pub(crate) fn post_frame(
     octets: &[u8],
     reader: &mut Deframer,
     mark: u64,

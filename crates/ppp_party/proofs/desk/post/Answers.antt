@@ -1,8 +1,7 @@
-use Rattle.std.proofs.Common.{◌+◌, ◌^◌, ◌≤◌, add-one, arith, length, subst, sym}
+use Rattle.std.proofs.Common.{◌+◌, ◌^◌, add-one, arith, subst, sym}
 use Rattle.ppp_party.specs.Counted.{IsCounted}
-use Rattle.ppp_party.specs.Party.{room}
 use Rattle.ppp_station.specs.StationOut.{entry_seen}
-use Rattle.ppp_party.proofs.SendLemmas.{Posted, counted-more, counted-push, left-next, left-none}
+use Rattle.ppp_party.proofs.SendLemmas.{counted-more, counted-push, left-next, left-none}
 use Rattle.ppp_party.proofs.desk.post.Goals as goal
 
 pub loop-i-preserved : goal.loop-i-preserved

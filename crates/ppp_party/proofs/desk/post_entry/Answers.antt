@@ -1,4 +1,4 @@
-use Rattle.std.proofs.Common.{◌≡◌, ℕ, List, [], Bor, ap, refl, inl, inr, ◌∙◌}
+use Rattle.std.proofs.Common.{◌≡◌, ℕ, List, [], Bor, ap, inl, inr, ◌∙◌}
 use Rattle.std.specs.Prelude.{◌⊎◌, Option}
 use Rattle.ppp_station.specs.StationOut.{entry_seen}
 use Rattle.ppp_station.specs.declared.station_out.StationEntry.{StationEntry}

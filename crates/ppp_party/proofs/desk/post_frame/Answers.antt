@@ -1,8 +1,6 @@
-use Rattle.std.proofs.Common.{◌≡◌, ◌∷◌, [], ap, ◌∙◌}
-use Rattle.std.specs.Prelude.{option_map}
+use Rattle.std.proofs.Common.{◌∷◌, [], ap, ◌∙◌}
 use Rattle.ppp_party.specs.About.{about_of}
-use Rattle.ppp_party.specs.CarriedRead.{carried_seen}
-use Rattle.ppp_party.specs.Frame.{Carried, carried, mark_by, noted_by}
+use Rattle.ppp_party.specs.Frame.{mark_by, noted_by}
 use Rattle.ppp_party.specs.Party.{queued}
 use Rattle.ppp_party.proofs.ResultLemmas.{on_ok, on_ok_map}
 use Rattle.ppp_party.proofs.SendLemmas.{carried-is}

@@ -1,9 +1,5 @@
-use Rattle.std.proofs.Common.{◌∙◌, List, [], ap, length, map, sym, subst}
-use Rattle.std.specs.List.{AllByRecursion}
-use Rattle.ppp_link.specs.Link.{Link}
-use Rattle.ppp_party.specs.Frame.{Frame}
-use Rattle.ppp_party.specs.Ledger.{Ledgers, ledgers_begun}
-use Rattle.ppp_party.specs.Party.{Party, party_begun}
+use Rattle.ppp_party.specs.Ledger.{ledgers_begun}
+use Rattle.ppp_party.specs.Party.{Party}
 use Rattle.ppp_party.proofs.DoneLemmas.{whole-emptied, begun-emptied}
 use Rattle.ppp_party.proofs.party.Party.begin.Goals as goal
 

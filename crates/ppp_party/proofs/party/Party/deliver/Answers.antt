@@ -1,7 +1,6 @@
 use Rattle.std.proofs.Common.{◌≡◌, ◌∙◌, ◌-◌, ◌+◌, ◌^◌, ◌≤◌, ap, arith, length, set, subst, sym}
-use Rattle.std.specs.Prelude.{OnOk, Some, slice_get}
-use Rattle.ppp_link.specs.Link.{Link}
-use Rattle.ppp_station.specs.StationOut.{AreShort, Out}
+use Rattle.std.specs.Prelude.{OnOk}
+use Rattle.ppp_station.specs.StationOut.{AreShort}
 use Rattle.ppp_station.specs.Steps.{Takes}
 use Rattle.ppp_station.specs.declared.station_out.TheConstants.{MOST_ENTRIES}
 use Rattle.ppp_party.specs.Counted.{AreCounted, IsCounted}

@@ -1,4 +1,4 @@
-use Rattle.std.proofs.Common.{◌≡◌, ◌∙◌, arith, length, sym}
+use Rattle.std.proofs.Common.{◌≡◌, arith, length}
 use Rattle.ppp_party.proofs.DoneLemmas.{begun-all}
 use Rattle.ppp_party.proofs.party.Party.new.Goals as goal
 

@@ -1,4 +1,4 @@
-use Rattle.std.proofs.Common.{◌≡◌, List, [], length, replicate}
+use Rattle.std.proofs.Common.{◌≡◌, List, [], replicate}
 use Rattle.ppp_party.specs.Frame.{Frame}
 use Rattle.ppp_party.specs.Ledger.{ledgers_begun}
 use Rattle.ppp_party.proofs.party.Party.new.Given as goal

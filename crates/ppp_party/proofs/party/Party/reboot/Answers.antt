@@ -1,4 +1,4 @@
-use Rattle.std.proofs.Common.{◌≡◌, ◌∙◌, ◌^◌, ap, subst, sym}
+use Rattle.std.proofs.Common.{◌≡◌, ◌^◌, subst, sym}
 use Rattle.std.specs.Prelude.{OnOk}
 use Rattle.ppp_party.specs.Counted.{AreCounted}
 use Rattle.ppp_party.specs.Downs.{AreShortDowns}
