@@ -28,3 +28,16 @@ IsOfText (Outstanding step) = ⊤
 IsOfText WriteFault = ⊥
 IsOfText Memory = ⊥
 IsOfText NotBuilt = ⊤
+
+-- a status that the run of a script ends with: it was done to its end, or up to a step that is refused
+abbrev pub IsOfRun : Status → Type 0
+IsOfRun Fine = ⊤
+IsOfRun BadWords = ⊥
+IsOfRun ReadFault = ⊥
+IsOfRun TooLong = ⊥
+IsOfRun BadConfig = ⊥
+IsOfRun (BadLine line) = ⊥
+IsOfRun (Outstanding step) = ⊤
+IsOfRun WriteFault = ⊥
+IsOfRun Memory = ⊥
+IsOfRun NotBuilt = ⊥

@@ -1,19 +1,19 @@
 //! What is replied to a text.
 
-ghost use Rattle.std.specs.Prelude.{◌≡◌, ◌≤◌, ℕ, List, length, IfOk, Ok, Result};
-ghost use Rattle.ppp_cli.specs.Reply.{is_built, is_plain, is_single, not_built_line, reply_seen, reply_to_capture, reply_to_events, reply_to_line, reply_to_replay, reply_to_settings, says, says_with, IsReplyToCommand, IsReplyToFed, IsReplyToFeed, Refuses};
-ghost use Rattle.ppp_conf.specs.Config.{Settings, config_seen};
-ghost use Rattle.ppp_conf.specs.EndConfig.{end_seen};
+ghost use Rattle.std.specs.Prelude.{◌≡◌, ◌≤◌, ℕ, List, length, true, IfErr, IfOk, Ok, Result};
+ghost use Rattle.ppp_conf.specs.Config.{Settings, config_of, config_seen};
 ghost use Rattle.ppp_conf.specs.Refusal.{IsRefusal, Refusal as ConfRefusal};
-ghost use Rattle.ppp_world.specs.Settings.{settings_in as asked_in};
-ghost use Rattle.ppp_cli.specs.Status.{IsOfText};
+ghost use Rattle.ppp_script.specs.Event.{event_form};
+ghost use Rattle.ppp_script.specs.FeedEvent.{feed_form};
 ghost use Rattle.ppp_show.specs.Stream.{show_of};
+ghost use Rattle.ppp_cli.specs.Reply.{is_plain, not_built_line, reply_seen, reply_to_capture, reply_to_line, says, says_with, Declines, IsReplyToCommand, IsReplyToFeed, IsReplyToInput, IsReplyToLines, IsReplyToRun};
+ghost use Rattle.ppp_cli.specs.Status.{IsOfText};
 ghost use Rattle.ppp_cli.specs.declared.input.TheConstants.{MOST_OCTETS};
 ghost use Rattle.ppp_cli.specs.declared.status.Status.TheVariants.{NotBuilt};
 
 use crate::command::Command;
 use crate::status::Status;
-use ppp_conf::{ConfFault, Config, EndConfig, read_config};
+use ppp_conf::{ConfFault, Config, read_config};
 use ppp_feed::feed;
 use ppp_io::Memory;
 use ppp_script::{Event, LineWhy, Script, ScriptFault, read_feed, read_script};
@@ -58,75 +58,56 @@ fn reply_to_capture(alloc: Global, text: &[u8]) -> Result<Reply, Memory>
     }
 }
 
-/// Parts the input at the line `---`, reads the settings before it, and replays the script behind it.
-#[tactic(auto, unfolding(crate::specs::Reply::reply_to_replay))]
+/// Parts the input at the line `---`, and replays the script behind it by the settings before it.
 fn reply_to_replay(alloc: Global, text: &[u8]) -> Result<Reply, Memory>
     requires { length text.now ≤ MOST_OCTETS }
-    ensures reply { IfOk result (λ reply. reply_seen reply ≡ reply_to_replay text.now) }
+    ensures reply { IfOk result
+        (λ reply. IsReplyToInput event_form IsReplyToRun text.now (reply_seen reply)) }
     ensures of_text { IfOk result (λ reply. IsOfText reply.status) }
 {
     let parts = part_input(text);
-    match read_config(alloc, parts.settings) {
-        Ok(config) => reply_to_config(alloc, &config, parts.script),
-        Err(fault) => refuse_settings(alloc, &fault),
+    match read_built(alloc, parts.settings)? {
+        Ok(config) => reply_to_script(alloc, &config, parts.script),
+        Err(reply) => Ok(reply),
     }
 }
 
-/// Replays a script with these settings, if they are built.
-fn reply_to_config(alloc: Global, config: &Config, script: &[u8]) -> Result<Reply, Memory>
+/// Replays a script by these settings.
+fn reply_to_script(alloc: Global, config: &Config, script: &[u8]) -> Result<Reply, Memory>
     requires { length script.now ≤ MOST_OCTETS }
-    ensures reply { IfOk result
-        (λ reply. reply_seen reply ≡ reply_to_settings (Ok (config_seen config.now)) script.now) }
+    ensures reply { IfOk result (λ reply. IsReplyToLines event_form IsReplyToRun
+        (config_seen config.now) script.now (reply_seen reply)) }
     ensures of_text { IfOk result (λ reply. IsOfText reply.status) }
 {
-    if !is_built(config) {
-        return refuse_unbuilt(alloc);
-    }
     match read_script(alloc, script, config.links) {
-        Ok(script) => reply_to_script(alloc, config, &script),
+        Ok(script) => reply_to_events(alloc, config, &script),
         Err(ScriptFault::Refused { line, why }) => refuse_line(alloc, line, why),
         Err(ScriptFault::Memory) => Err(Memory),
     }
 }
 
-/// Whether these settings are built: one link, without multilink or a network protocol at either end.
-fn is_built(config: &Config) -> bool
-    ensures { result ≡ is_built (config_seen config.now) }
-{
-    config.links == 1 && is_single(&config.a) && is_single(&config.b)
-}
-
-/// Whether an end has neither multilink nor a network protocol.
-fn is_single(end: &EndConfig) -> bool
-    ensures { result ≡ is_single (end_seen end.now) }
-{
-    end.mrru == 0 && !end.protocols.contains(&true)
-}
-
-/// Parts the input at the line `---`, reads the settings before it, and feeds end a with the lines behind it.
+/// Parts the input at the line `---`, and feeds end a of the settings before it with the lines behind it.
 fn reply_to_feed(alloc: Global, text: &[u8]) -> Result<Reply, Memory>
     requires { length text.now ≤ MOST_OCTETS }
-    ensures reply { IfOk result (λ reply. IsReplyToFeed text.now (reply_seen reply)) }
+    ensures reply { IfOk result
+        (λ reply. IsReplyToInput feed_form IsReplyToFeed text.now (reply_seen reply)) }
     ensures of_text { IfOk result (λ reply. IsOfText reply.status) }
 {
     let parts = part_input(text);
-    match read_config(alloc, parts.settings) {
+    match read_built(alloc, parts.settings)? {
         Ok(config) => reply_to_lines(alloc, &config, parts.script),
-        Err(fault) => refuse_settings(alloc, &fault),
+        Err(reply) => Ok(reply),
     }
 }
 
-/// Feeds end a of these settings with lines, if they are built.
-fn reply_to_lines(alloc: Global, config: &Config, script: &[u8]) -> Result<Reply, Memory>
-    requires { length script.now ≤ MOST_OCTETS }
-    ensures reply { IfOk result
-        (λ reply. IsReplyToFed (Ok (config_seen config.now)) script.now (reply_seen reply)) }
+/// Feeds end a of these settings with lines.
+fn reply_to_lines(alloc: Global, config: &Config, lines: &[u8]) -> Result<Reply, Memory>
+    requires { length lines.now ≤ MOST_OCTETS }
+    ensures reply { IfOk result (λ reply. IsReplyToLines feed_form IsReplyToFeed
+        (config_seen config.now) lines.now (reply_seen reply)) }
     ensures of_text { IfOk result (λ reply. IsOfText reply.status) }
 {
-    if !is_plain(config) {
-        return refuse_unbuilt(alloc);
-    }
-    match read_feed(alloc, script, config.links) {
+    match read_feed(alloc, lines, config.links) {
         Ok(script) => Ok(Reply {
             status: Status::Ok,
             octets: feed(alloc, &config.a, &script)?,
@@ -136,7 +117,24 @@ fn reply_to_lines(alloc: Global, config: &Config, script: &[u8]) -> Result<Reply
     }
 }
 
-/// Whether a feed is built for these settings: there is no multilink at either end.
+/// Reads settings that are built. Else it gives the reply that refuses them.
+fn read_built(alloc: Global, settings: &[u8]) -> Result<Result<Config, Reply>, Memory>
+    ensures read { IfOk result (λ read. IfOk read
+        (λ config. config_of settings.now ≡ Ok (config_seen config))) }
+    ensures plain { IfOk result (λ read. IfOk read
+        (λ config. is_plain (config_seen config) ≡ true)) }
+    ensures declined { IfOk result (λ read. IfErr read
+        (λ reply. Declines (config_of settings.now) (reply_seen reply))) }
+    ensures of_text { IfOk result (λ read. IfErr read (λ reply. IsOfText reply.status)) }
+{
+    match read_config(alloc, settings) {
+        Ok(config) if is_plain(&config) => Ok(Ok(config)),
+        Ok(_) => Ok(Err(refuse_unbuilt(alloc)?)),
+        Err(fault) => Ok(Err(refuse_settings(alloc, &fault)?)),
+    }
+}
+
+/// Whether these settings are built: there is no multilink at either end.
 fn is_plain(config: &Config) -> bool
     ensures { result ≡ is_plain (config_seen config.now) }
 {
@@ -146,7 +144,7 @@ fn is_plain(config: &Config) -> bool
 /// Refuses settings, with the line that says which key and why.
 fn refuse_settings(alloc: Global, fault: &ConfFault) -> Result<Reply, Memory>
     ensures reply { (read : Result Settings ConfRefusal) → IsRefusal read fault.now →
-        IfOk result (λ reply. Refuses read (reply_seen reply)) }
+        IfOk result (λ reply. Declines read (reply_seen reply)) }
     ensures of_text { IfOk result (λ reply. IsOfText reply.status) }
 {
     if let ConfFault::Memory = fault {
@@ -182,11 +180,10 @@ fn refuse_line(alloc: Global, line: u32, why: LineWhy) -> Result<Reply, Memory>
     })
 }
 
-/// Replays a script, and replies with its report; where a step is refused the report is that of the steps before it, and
-/// the line of the refusal follows.
-fn reply_to_script(alloc: Global, config: &Config, script: &Script<Event>) -> Result<Reply, Memory>
+/// Replays events by these settings, and replies with the report.
+fn reply_to_events(alloc: Global, config: &Config, script: &Script<Event>) -> Result<Reply, Memory>
     ensures reply { IfOk result
-        (λ reply. reply_seen reply ≡ reply_to_events (asked_in (config_seen config.now)) (Ok script.now)) }
+        (λ reply. IsReplyToRun (config_seen config.now) script.now (reply_seen reply)) }
     ensures of_text { IfOk result (λ reply. IsOfText reply.status) }
 {
     let replayed = replay(alloc, config, script)?;

@@ -7,7 +7,7 @@ ghost use Rattle.ppp_cli.specs.Agreement.{AgreesIfReplayed};
 ghost use Rattle.ppp_cli.specs.Answer.{Answers, SaysIfReadFault};
 ghost use Rattle.ppp_cli.specs.Command.{command_in};
 ghost use Rattle.ppp_cli.specs.Input.{TakesAtMost, TakesTooMany};
-ghost use Rattle.ppp_cli.specs.Status.{IsOfText};
+ghost use Rattle.ppp_cli.specs.Status.{IsOfRun, IsOfText};
 ghost use Rattle.ppp_cli.specs.declared.input.TheConstants.{MOST_OCTETS};
 
 use crate::command::Command;
@@ -34,8 +34,8 @@ pub fn ppp_run<S: Source, K: Sink>(
     ensures reply { Answers (Rose (S.faults input.old) (S.faults input.new))
         (command_in args.now) (S.left input.old) (K.held output.old) (K.held output.new) result }
 
-    // In every state of the run that is replayed two Opened ends agree.
-    ensures agreed { AgreesIfReplayed (command_in args.now) (S.left input.old) }
+    // Where a run is replayed, in every state of it two Opened ends agree.
+    ensures agreement { IsOfRun result → AgreesIfReplayed (command_in args.now) (S.left input.old) }
     ensures words { result ≡ Status.BadWords → command_in args.now ≡ None }
     ensures unread { command_in args.now ≡ None → S.left input.new ≡ S.left input.old }
     ensures read { result ≡ Status.ReadFault → Rose (S.faults input.old) (S.faults input.new) }

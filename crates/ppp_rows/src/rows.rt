@@ -178,7 +178,7 @@ fn replies_to_words_and_settings(rt: HostRuntime) {
         // and those that aren't built
         (
             REPLAY,
-            "version = 1\nlinks = 2\n---\nshow\n",
+            "version = 1\na.mrru = 1500\n---\nfly\n",
             Status::NotBuilt,
             "not built\n",
         ),
@@ -364,7 +364,7 @@ fn a_socket_of_65_letters_has_no_form(rt: HostRuntime) {
 fn both_ends_ask_for_what_their_settings_have(rt: HostRuntime) {
     let lines = "---\nup a 1\nopen a 1 lcp\nup b 1\nopen b 1 lcp\nsettle 10\nshow\n";
     // the settings, the status, and the output
-    let rows: [(&str, Status, &str); 6] = [
+    let rows: [(&str, Status, &str); 7] = [
         // short headers at one end
         (
             "version = 2\n[a]\npfc = true\nacfc = true\n",
@@ -376,6 +376,13 @@ fn both_ends_ask_for_what_their_settings_have(rt: HostRuntime) {
             "version = 1\na.mru = 512\na.accm = 0\na.magic = false\nb.magic = false\n",
             Status::Ok,
             "show 15\n1 lcp Opened Opened 01040200020600000000 empty empty 01040200020600000000 agree yes\n",
+        ),
+        // two links, of which nothing happens to the second
+        (
+            "version = 1\nlinks = 2\n",
+            Status::Ok,
+            "show 15\n1 lcp Opened Opened 050600000004 050600000009 050600000009 050600000004 agree yes\n\
+             2 lcp Initial Initial - - - - agree -\n",
         ),
         // a number out of its range, a rule that is broken, and a key that isn't known
         (
@@ -393,9 +400,9 @@ fn both_ends_ask_for_what_their_settings_have(rt: HostRuntime) {
             Status::BadConfig,
             "config a.pfc Unknown\n",
         ),
-        // a network protocol isn't built
+        // multilink isn't built
         (
-            "version = 1\nb.protocols = [\"ip\"]\n",
+            "version = 1\nb.mrru = 1500\n",
             Status::NotBuilt,
             "not built\n",
         ),

@@ -34,4 +34,6 @@ fn two_opened_ends_agree(rt: HostRuntime) {
     assert_eq!(rt; world.agree(1, Proto::Lcp), Some(true));
     assert_eq!(rt; world.agree(1, Proto::Ip), None);
     assert_eq!(rt; world.agree(2, Proto::Lcp), None);
+    assert_eq!(rt; world.a().links(), 1);
+    assert_eq!(rt; world.b().links(), 1);
 }

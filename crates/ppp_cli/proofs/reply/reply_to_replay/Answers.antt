@@ -1,17 +1,19 @@
-use Rattle.ppp_cli.specs.Reply.{reply_seen}
-use Rattle.ppp_conf.specs.Config.{config_of}
-use Rattle.ppp_cli.proofs.ReplyLemmas.{if_ok_map, refused_replay, replay_reply}
+use Rattle.ppp_cli.specs.Reply.{reply_seen, IsReplyToRun}
+use Rattle.ppp_conf.specs.Config.{config_seen}
+use Rattle.ppp_script.specs.Event.{event_form}
+use Rattle.ppp_cli.proofs.ReplyLemmas.{if_ok_map, built_reply, declined_reply}
 use Rattle.ppp_cli.proofs.reply.reply_to_replay.Goals as goal
 
 pub returns-in-Ok-clause-reply : goal.returns-in-Ok-clause-reply
 returns-in-Ok-clause-reply c =
     let parts = c.part_input-parts in
-    if_ok_map c.reply_to_config.result c.reply_to_config.ensures.reply (λ reply is.
-    replay_reply c.args.text.now parts.result.settings.now parts.result.script.now c.in-Ok.config (reply_seen reply)
-    parts.ensures.settings parts.ensures.script c.in-Ok.ensures.ok is)
+    let read = rw c.in-Ok.is at c.in_ok-config.ensures.read in
+    let plain = rw c.in-Ok.is at c.in_ok-config.ensures.plain in
+    if_ok_map c.reply_to_script.result c.reply_to_script.ensures.reply (λ reply is.
+    built_reply event_form IsReplyToRun c.args.text.now parts.result.settings.now parts.result.script.now (config_seen c.in-Ok.config) (reply_seen reply) parts.ensures.settings parts.ensures.script read plain is)
 
 pub returns-in-Err-clause-reply : goal.returns-in-Err-clause-reply
 returns-in-Err-clause-reply c =
     let parts = c.part_input-parts in
-    if_ok_map c.refuse_settings.result (c.refuse_settings.ensures.reply (config_of parts.result.settings.now) c.in-Err.ensures.err) (λ reply is.
-    refused_replay c.args.text.now parts.result.settings.now parts.result.script.now (reply_seen reply) parts.ensures.settings parts.ensures.script is)
+    let declined = rw c.in-Err.is at c.in_ok-config.ensures.declined in
+    declined_reply event_form IsReplyToRun c.args.text.now parts.result.settings.now parts.result.script.now (reply_seen c.in-Err.reply) parts.ensures.settings parts.ensures.script declined
