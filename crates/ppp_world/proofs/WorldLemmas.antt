@@ -1,5 +1,5 @@
 -- A world that takes a script's events one by one does the moments of its run, up to the first that is refused.
-use Rattle.std.proofs.Common.{◌≡◌, ℕ, suc, ◌+◌, ◌-◌, ◌≤◌, ◌<◌, List, [], ◌∷◌, ◌++◌, refl, sym, ◌∙◌, ap, subst, arith, append_assoc}
+use Rattle.std.proofs.Common.{◌≡◌, ℕ, suc, ◌+◌, ◌-◌, ◌≤◌, ◌<◌, List, [], ◌∷◌, ◌++◌, length, refl, sym, ◌∙◌, ap, subst, arith, append_assoc}
 use Rattle.std.specs.Prelude.{Option, Some, None, IsSome, is_some, ⊤, true}
 use Rattle.std.specs.Option.{option_map}
 use Rattle.std.proofs.lemmas.List.{append-nil}
@@ -8,7 +8,7 @@ use Rattle.ppp_party.specs.Party.{Ends}
 use Rattle.ppp_script.specs.declared.event.Event.{Event}
 use Rattle.ppp_world.specs.Outstanding.{outstanding_in}
 use Rattle.ppp_world.specs.Run.{Moment, Place, moment_at, after_moment, deliveries, moments_of, place_after, run_from, shown, shown_at, report, refusal, refusal_with, before_refusal, kept_with, AgreeEverywhere, AgreeThroughout}
-use Rattle.ppp_world.specs.Step.{moved, next_delivery}
+use Rattle.ppp_world.specs.Step.{moved, next_delivery, settling, step_of}
 use Rattle.ppp_world.specs.World.{World, world_of, place_of, written_by, unless_halted, does_moment, does_moments, does_step, world_after, settled, UnlessMemory, IsSound, IsSoundUnless}
 use Rattle.ppp_world.specs.declared.outstanding.Outstanding.{Outstanding as Outstanding'}
 use Rattle.ppp_world.specs.declared.refusal.Refusal.{Refusal}
@@ -340,3 +340,11 @@ one-agreed now next step going done agreed =
     by_halt None whole rest = rest (All-nil (λ (x : Moment). AgreeEverywhere x.after))
     by_halt (Some Memory) whole rest = tt
     by_halt (Some (Outstanding why)) whole rest = rest
+
+pub event-agreed : (now next : World) (event : Event) (step : Step) → settling event ≡ None → step ≡ step_of (length now.ends.own.links) event → now.halt ≡ None →
+    UnlessMemory next.halt (next ≡ does_step now step) → (next.halt ≡ None → AgreeEverywhere next.ends) → UnlessMemory next.halt (AgreeThroughout (before_refusal (moments_of event (place_of now))))
+event-agreed now next event step one is going done agreed = rw (one, ← is) (one-agreed now next step going done agreed)
+
+-- the world goes on, so what it keeps holds
+pub sound-world : (ends : Ends) (steps : ℕ) (halt : Option WorldFault) (w : World) → IsSoundUnless halt ends steps → world_of ends steps w.report halt ≡ w → w.halt ≡ None → IsSound ends steps
+sound-world ends steps halt w sound is going = sound_unless halt ends steps sound (ap (λ (x : World). x.halt) is ∙ going)

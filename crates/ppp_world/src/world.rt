@@ -88,7 +88,8 @@ impl World {
         ensures none { IsNone result ↔ ¬ (AreOpenedOn link proto self.now.ends) }
         ensures never_false { result ≢ Some false }
     {
-        agree(self.a(), self.b(), link, proto)
+        let (a, b) = (self.ends.a().station(), self.ends.b().station());
+        agree(a, b, link, proto)
     }
 
     /// End a, as the steps left it.

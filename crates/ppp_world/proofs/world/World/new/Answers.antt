@@ -1,6 +1,10 @@
+use Rattle.std.proofs.Common.{◌∙◌, sym}
 use Rattle.ppp_conf.specs.Config.{config_seen}
 use Rattle.ppp_world.proofs.SoundLemmas.{sound-begun}
 use Rattle.ppp_world.proofs.world.World.new.Goals as goal
 
 pub invariant_of-result : goal.invariant_of-result
-invariant_of-result c = ?
+invariant_of-result c =
+    let ends = c.in_ok-ends.ends in
+    let config = c.args.config.now in
+    rw c.in_ok-ends.ensures.begun (sound-begun (config_seen config) ends.own.links ends.other.links (config.a_links ∙ sym config.b_links) c.in_ok-ends.ensures.begin)
