@@ -7,8 +7,8 @@ MOST_OCTETS = 1 << 20
 MOST_STEPS = 100_000
 
 
-def text(lines):
-    octets = (HEAD + "".join(line + "\n" for line in lines)).encode()
+def text(lines, head=HEAD):
+    octets = (head + "".join(line + "\n" for line in lines)).encode()
     assert len(octets) <= MOST_OCTETS, len(octets)
     assert steps_of(lines) <= MOST_STEPS, steps_of(lines)
     return octets
@@ -67,10 +67,10 @@ def wide_spans():
 LOADS = {"restarts": restarts, "losses": losses, "settling": settling, "queues full": queues_full,
          "queues full of others": queues_full_of_others, "spans near 255": wide_spans}
 
-KINDS = ["up", "down", "open", "close", "timeout", "deliver", "lose", "settle", "show", "again"]
+KINDS = ["up", "down", "open", "close", "timeout", "deliver", "lose", "settle", "show", "again", "reboot"]
 # Weights of the kinds: all alike, few restarts, few deliveries (for full queues), and restarts (for wide spans).
-WEIGHTS = [[2, 2, 2, 2, 4, 6, 3, 2, 2, 0], [4, 1, 4, 1, 8, 12, 2, 3, 2, 1], [3, 0, 8, 1, 12, 2, 1, 0, 1, 2],
-           [1, 0, 1, 0, 4, 5, 1, 0, 1, 9]]
+WEIGHTS = [[2, 2, 2, 2, 4, 6, 3, 2, 2, 0, 1], [4, 1, 4, 1, 8, 12, 2, 3, 2, 1, 1], [3, 0, 8, 1, 12, 2, 1, 0, 1, 2, 0],
+           [1, 0, 1, 0, 4, 5, 1, 0, 1, 9, 0]]
 
 
 def random_lines(draw, weights):
@@ -82,6 +82,8 @@ def random_lines(draw, weights):
         return [f"settle {draw.choice([1, 2, 3, 5, 20, 1000])}"]
     if kind == "show":
         return [kind]
+    if kind == "reboot":
+        return [f"reboot {end}"]
     if kind == "lose":
         return [f"lose {end} 1 {draw.choice([1, 1, 2, 3, 10, 1024])}"]
     return [f"{kind} {end} 1" + (" lcp" if kind in ("open", "close", "timeout") else "")]
@@ -97,7 +99,8 @@ def random_script(seed):
     lines += ["show"] + draw.choice([["settle 30", "show"], []])
     if draw.randrange(8) == 0:
         lines.insert(draw.randrange(len(lines)), draw.choice(
-            ["", "# up a 1", "up a 2", "up c 1", "up a 01", "up  a 1", "up a 1 ", "open a 1 ip", "open a 1", "settle 0",
+            ["", "# up a 1", "up a 2", "up c 1", "up a 01", "up  a 1", "up a 1 ", "open a 1 ip", "close b 1 bacp",
+             "timeout a 1 mpls", "open a 1 bap", "open a 1", "reboot", "reboot c", "reboot a 1", "settle 0",
              "settle 1001", "lose a 1 0", "lose a 1 1025", "lose a 2 x", "shows", "---", "up a 256", "show\r"]))
     octets = text(lines)
     if draw.randrange(8) == 0:

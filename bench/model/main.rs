@@ -1,6 +1,6 @@
 //! `pppd replay` in plain Rust: one link, LCP, default settings. `bench/ratio.py` measures the program against it,
 //! built by `rustc -O`. Left out are packets that these two ends never send: of codes 7 to 11 and unknown ones. So are
-//! settings but `version = 1`: any others are refused as no TOML.
+//! settings but `version = 1`: any others are refused as no TOML. Nothing comes of the protocols that aren't configured.
 
 use Action::{Again, Answer, InitRestart, Refuse, Request, Terminate, TerminateAck, ZeroRestart};
 use State::{AckRcvd, AckSent, Closed, Closing, Initial, Opened, ReqSent, Starting, Stopped, Stopping};
@@ -363,7 +363,7 @@ impl End {
 
 /// An end is 0 for a and 1 for b.
 #[derive(Clone, Copy)]
-enum Event { Row(usize, Input), Timeout(usize), Deliver(usize), Lose(usize, usize), Settle(u32), Show }
+enum Event { Row(usize, Input), Timeout(usize), Deliver(usize), Lose(usize, usize), Settle(u32), Reboot(usize), Nothing, Show }
 
 /// Both ends, and the queue to each.
 struct World { ends: [End; 2], queues: [Queue; 2], steps: u32, report: String }
@@ -401,7 +401,12 @@ impl World {
                 }
             }
             Event::Lose(e, place) => drop(queues[e].remove(place - 1)),
-            Event::Settle(_) => {}
+            Event::Reboot(e) => {
+                queues.iter_mut().for_each(Queue::clear);
+                ends[e] = End::new();
+                ends[1 - e].row(Input::Down, Packet::default(), word(1 - e), &mut queues[e]);
+            }
+            Event::Settle(_) | Event::Nothing => {}
             Event::Show => self.show(),
         }
         for e in 0..2 {
@@ -457,19 +462,24 @@ fn number(field: Option<&[u8]>, most: u32) -> Result<u32, &'static str> {
     digits.and_then(|digits| digits.parse().ok()).filter(|number| *number <= most).ok_or("Event")
 }
 
+fn end_of(field: Option<&[u8]>) -> Result<usize, &'static str> {
+    match field {
+        Some(b"a") => Ok(0),
+        Some(b"b") => Ok(1),
+        _ => Err("Event"),
+    }
+}
+
 /// Reads an event line, or answers why it is refused.
 fn event(line: &[u8]) -> Result<Event, &'static str> {
     let mut fields = line.split(|octet| *octet == b' ');
     let name = fields.next().unwrap_or(&[]);
-    let event = match name {
+    let mut event = match name {
         b"show" => Event::Show,
         b"settle" => Event::Settle(number(fields.next(), 1000)?),
+        b"reboot" => Event::Reboot(end_of(fields.next())?),
         b"up" | b"down" | b"open" | b"close" | b"timeout" | b"deliver" | b"lose" => {
-            let end = match fields.next() {
-                Some(b"a") => 0,
-                Some(b"b") => 1,
-                _ => return Err("Event"),
-            };
+            let end = end_of(fields.next())?;
             if number(fields.next(), 255)? != 1 {
                 return Err("Link");
             }
@@ -485,8 +495,12 @@ fn event(line: &[u8]) -> Result<Event, &'static str> {
         }
         _ => return Err("Event"),
     };
-    if matches!(name, b"open" | b"close" | b"timeout") && fields.next() != Some(b"lcp") {
-        return Err("Event");
+    if matches!(name, b"open" | b"close" | b"timeout") {
+        match fields.next() {
+            Some(b"lcp") => {}
+            Some(b"ip" | b"ipv6" | b"osi" | b"mpls" | b"bacp") => event = Event::Nothing,
+            _ => return Err("Event"),
+        }
     }
     if fields.next().is_some() { Err("Event") } else { Ok(event) }
 }

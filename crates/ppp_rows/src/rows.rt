@@ -5,7 +5,7 @@ use ppp_io::{MemSink, MemSource, SureSink, SureSource};
 use std::alloc::Global;
 use std::process::Abort;
 
-const REPLAY: &[&str] = &["replay"];
+pub(crate) const REPLAY: &[&str] = &["replay"];
 
 const FEED: &[&str] = &["feed"];
 
@@ -34,7 +34,12 @@ fn octets_of(alloc: Global, rt: &impl Abort, octets: &[u8]) -> Vec<u8> {
 }
 
 /// What the program answers to these words and this input over devices that never fail, and what it writes.
-fn run_over(alloc: Global, rt: &impl Abort, words: &[&str], input: &[u8]) -> (Status, Vec<u8>) {
+pub(crate) fn run_over(
+    alloc: Global,
+    rt: &impl Abort,
+    words: &[&str],
+    input: &[u8],
+) -> (Status, Vec<u8>) {
     let args = words_of(alloc, rt, words);
     let mut source = SureSource::new(octets_of(alloc, rt, input), 1_000);
     let mut sink = SureSink::new(alloc, 1_000).expect(rt, "memory");
@@ -44,7 +49,7 @@ fn run_over(alloc: Global, rt: &impl Abort, words: &[&str], input: &[u8]) -> (St
 }
 
 /// A script's first lines, the same lines so many times, and its last lines.
-fn repeating(
+pub(crate) fn repeating(
     alloc: Global,
     rt: &impl Abort,
     first: &str,
@@ -156,7 +161,7 @@ fn replays_what_was_worked_out(rt: HostRuntime) {
 #[test]
 fn replies_to_words_and_settings(rt: HostRuntime) {
     // words, an input, the status, and the output
-    let rows: [(&[&str], &str, Status, &str); 12] = [
+    let rows: [(&[&str], &str, Status, &str); 13] = [
         // both ends open
         (
             REPLAY,
@@ -182,6 +187,12 @@ fn replies_to_words_and_settings(rt: HostRuntime) {
             Status::NotBuilt,
             "not built\n",
         ),
+        (
+            REPLAY,
+            "version = 1\nb.mrru = 8192\n---\nshow\n",
+            Status::NotBuilt,
+            "not built\n",
+        ),
         // words that are no command's
         (&[], FIRST_RUN, Status::BadWords, USAGE),
         (&["soak", "01", "5"], FIRST_RUN, Status::BadWords, USAGE),
@@ -203,7 +214,7 @@ fn feeds_what_was_worked_out(rt: HostRuntime) {
     // LCP without options, and IPCP
     let network = "version = 1\n[a]\nmagic = false\nprotocols = [\"ip\"]\nip = \"10.0.0.1\"\n---\n";
     // what stands before the lines, the lines, the status, and the output
-    let rows: [(&str, &str, Status, &str); 14] = [
+    let rows: [(&str, &str, Status, &str); 16] = [
         // a packet with an unknown code, before LCP is opened
         (
             single,
@@ -230,6 +241,38 @@ fn feeds_what_was_worked_out(rt: HostRuntime) {
              got - ip \n\
              push 1 7eff7d23c0217d257d217d207d243dc77e\n\
              hang 1\n",
+        ),
+        // an Echo-Request in Opened, and a protocol that isn't known, before LCP is Opened and then
+        (
+            single,
+            "up 1\nopen 1 lcp\nbytes 1 7eff7d23c0237d217d217d207d2459a37e\n\
+             bytes 1 7eff7d23c0217d227d217d207d2a7d257d267d207d207d207d24c4557e7eff7d23c0217d217d217d207d24d1b57e\n\
+             bytes 1 7eff7d23c0217d297d257d207d28aabbccdd7d2d2d7e\n\
+             bytes 1 7eff7d23c0237d217d217d207d2459a37e\n",
+            Status::Ok,
+            "push 1 7eff7d23c0217d217d217d207d2a7d257d267d207d207d207d24ad217e\n\
+             push 1 7eff7d23c0217d227d217d207d247d3c907e\n\
+             push 1 7eff7d23c0217d2a7d257d207d287d207d207d207d24ec527e\n\
+             push 1 7eff7d23c0217d287d217d207d2ac0237d217d217d207d24f5777e\n",
+        ),
+        // codes that LCP and IPCP don't know, in Opened, which both stay in
+        (
+            network,
+            "up 1\nopen 1 lcp\n\
+             bytes 1 7eff7d23c0217d227d217d207d247d3c907e7eff7d23c0217d217d217d207d24d1b57e\n\
+             bytes 1 7eff7d2380217d227d217d207d2a7d237d267d2a7d207d207d215d917e\n\
+             bytes 1 7eff7d2380217d217d217d207d2a7d237d267d2a7d207d207d22afd77e\n\
+             bytes 1 7eff7d23c0217d2c7d277d207d2487e87e\n\
+             bytes 1 7eff7d2380217d297d277d207d247d21847e\n\
+             bytes 1 7eff7d237d2021457d2050767e\n",
+            Status::Ok,
+            "push 1 7eff7d23c0217d217d217d207d24d1b57e\n\
+             push 1 7eff7d23c0217d227d217d207d247d3c907e\n\
+             push 1 7eff7d2380217d217d217d207d2a7d237d267d2a7d207d207d2134e57e\n\
+             push 1 7eff7d2380217d227d217d207d2a7d237d267d2a7d207d207d22c6a37e\n\
+             push 1 7eff7d23c0217d277d217d207d287d2c7d277d207d24769c7e\n\
+             push 1 7eff7d2380217d277d217d207d287d297d277d207d245aa37e\n\
+             got - ip 4500\n",
         ),
         // the Magic-Numbers of two negotiations are the words of steps 2 and 4; the comment is no step
         (
@@ -400,11 +443,12 @@ fn both_ends_ask_for_what_their_settings_have(rt: HostRuntime) {
             Status::BadConfig,
             "config a.pfc Unknown\n",
         ),
-        // multilink isn't built
+        // a network protocol at one end alone, where the other end rejects it
         (
-            "version = 1\nb.mrru = 1500\n",
-            Status::NotBuilt,
-            "not built\n",
+            "version = 1\nb.protocols = [\"ip\"]\n",
+            Status::Ok,
+            "show 15\n1 lcp Opened Opened 050600000004 050600000009 050600000009 050600000004 agree yes\n\
+             1 ip Absent Stopped - - - - agree -\n",
         ),
     ];
     for (settings, status, output) in rows {

@@ -3,10 +3,23 @@
 ghost use Rattle.std.specs.Prelude.{◌≡◌, None};
 
 use ppp_conf::read_config;
+use ppp_frame::FrameRef;
 use ppp_packet::Proto;
-use ppp_script::{End, Event, steps_of};
+use ppp_script::{End, Event, read_script, steps_of};
+use ppp_station::Station;
 use ppp_world::World;
+use std::alloc::Global;
 use std::process::Abort;
+
+/// What is Opened on a single link: every protocol but BACP.
+const OPENED: [Proto; 5] = [Proto::Lcp, Proto::Ip, Proto::Ipv6, Proto::Osi, Proto::Mpls];
+
+/// Settings with all six protocols at both ends of two links.
+const ALL: &str = "version = 1\nlinks = 2\n\
+    [a]\nprotocols = [\"ip\", \"ipv6\", \"osi\", \"mpls\"]\nip = \"10.0.0.1\"\nifid = \"0000000000000001\"\nalign = 4\n\
+    mrru = 1500\ndisc = \"1:61\"\nlink_disc = 10\nfavored = 1\nbap = true\n\
+    [b]\nprotocols = [\"ip\", \"ipv6\", \"osi\", \"mpls\"]\nip = \"10.0.0.2\"\nifid = \"0000000000000002\"\nalign = 1\n\
+    mrru = 1500\ndisc = \"1:62\"\nlink_disc = 20\nfavored = 2\nbap = true\n";
 
 /// Does the steps of an event, none of which is refused.
 fn step(rt: &impl Abort, world: &mut World, event: &Event)
@@ -36,4 +49,79 @@ fn two_opened_ends_agree(rt: HostRuntime) {
     assert_eq!(rt; world.agree(2, Proto::Lcp), None);
     assert_eq!(rt; world.a().links(), 1);
     assert_eq!(rt; world.b().links(), 1);
+}
+
+/// A world of settings in which these lines were done, and then the states reported.
+fn shown_behind(alloc: Global, rt: &impl Abort, settings: &str, lines: &str) -> World
+    ensures { result.halt ≡ None }
+{
+    assert!(rt; lines.len() < 100_000);
+    let Ok(config) = read_config(alloc, settings.as_bytes()) else {
+        panic!(rt; "these settings are refused");
+    };
+    let Ok(script) = read_script(alloc, lines.as_bytes(), config.links) else {
+        panic!(rt; "these lines are refused");
+    };
+    let mut world = World::new(alloc, &config).expect(rt, "memory");
+    for i in 0..script.count() {
+        step(rt, &mut world, script.at(i));
+    }
+    step(rt, &mut world, &Event::Show);
+    world
+}
+
+#[test]
+fn each_protocol_opens_on_each_link(rt: HostRuntime) {
+    let world = shown_behind(
+        rt.alloc(),
+        &rt,
+        ALL,
+        "up a 1\nopen a 1 lcp\nup b 1\nopen b 1 lcp\nup a 2\nopen a 2 lcp\nup b 2\nopen b 2 lcp\nsettle 60\n",
+    );
+    // BACP is Up on a bundle's control link alone: here each link is single, and it stays in Starting
+    let report = "show 69\n\
+        1 lcp Opened Opened 050600000004110405dc130401611704000a 050600000009110405dc1304016217040014 \
+        050600000009110405dc1304016217040014 050600000004110405dc130401611704000a agree yes\n\
+        1 ip Opened Opened 03060a000001 03060a000002 03060a000002 03060a000001 agree yes\n\
+        1 ipv6 Opened Opened 010a0000000000000001 010a0000000000000002 010a0000000000000002 010a0000000000000001 agree yes\n\
+        1 osi Opened Opened 010304 010301 010301 010304 agree yes\n\
+        1 mpls Opened Opened empty empty empty empty agree yes\n\
+        1 bacp Starting Starting - - - - agree -\n\
+        2 lcp Opened Opened 05060000000c110405dc130401611704000b 050600000011110405dc1304016217040015 \
+        050600000011110405dc1304016217040015 05060000000c110405dc130401611704000b agree yes\n\
+        2 ip Opened Opened 03060a000001 03060a000002 03060a000002 03060a000001 agree yes\n\
+        2 ipv6 Opened Opened 010a0000000000000001 010a0000000000000002 010a0000000000000002 010a0000000000000001 agree yes\n\
+        2 osi Opened Opened 010304 010301 010301 010304 agree yes\n\
+        2 mpls Opened Opened empty empty empty empty agree yes\n\
+        2 bacp Starting Starting - - - - agree -\n";
+    assert_eq!(rt; world.report(), report.as_bytes());
+    for link in [1, 2] {
+        for proto in OPENED {
+            assert_eq!(rt; world.agree(link, proto), Some(true), "{proto} on {link}");
+        }
+        assert_eq!(rt; world.agree(link, Proto::Bacp), None);
+    }
+}
+
+/// The frame that the deframer of a station's first link lends.
+fn lent<'a>(rt: &impl Abort, station: &'a Station) -> FrameRef<'a> {
+    assert!(rt; station.links() >= 1);
+    let deframer = station.link(1).deframer();
+    assert!(rt; deframer.has_frame());
+    deframer.frame()
+}
+
+#[test]
+fn a_delivery_leaves_its_frame_in_the_deframer(rt: HostRuntime) {
+    let world = shown_behind(
+        rt.alloc(),
+        &rt,
+        "version = 1",
+        "up a 1\nopen a 1 lcp\nup b 1\nopen b 1 lcp\ndeliver b 1\ndeliver a 1\ndeliver a 1\n",
+    );
+    // end a took b's request and then its Ack, and b took a's request
+    let (a, b) = (lent(&rt, world.a()), lent(&rt, world.b()));
+    assert_eq!(rt; (a.protocol, b.protocol), (0xc021, 0xc021));
+    assert_eq!(rt; a.info, [2, 1, 0, 10, 5, 6, 0, 0, 0, 4].as_slice());
+    assert_eq!(rt; b.info, [1, 1, 0, 10, 5, 6, 0, 0, 0, 4].as_slice());
 }
