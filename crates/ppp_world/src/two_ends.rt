@@ -57,12 +57,22 @@ impl TwoEnds {
     {
         match step {
             Step::Happens(End::A, link, what) => {
-                self.a
-                    .happen(&mut self.b, &mut self.desk, what, link, word_at(End::A, number))
+                self.a.happen(
+                    &mut self.b,
+                    &mut self.desk,
+                    what,
+                    link,
+                    word_at(End::A, number),
+                )
             }
             Step::Happens(End::B, link, what) => {
-                self.b
-                    .happen(&mut self.a, &mut self.desk, what, link, word_at(End::B, number))
+                self.b.happen(
+                    &mut self.a,
+                    &mut self.desk,
+                    what,
+                    link,
+                    word_at(End::B, number),
+                )
             }
             Step::Delivers(End::A, link) => {
                 self.a
