@@ -7,6 +7,7 @@ use Rattle.std.proofs.lemmas.Bool.Decides.{nat_tests}
 use Rattle.std.proofs.lemmas.Option.{slice_get_past}
 use Rattle.std.proofs.lemmas.Slice.Eq.{bytes_eq-Decides}
 use Rattle.ppp_packet.specs.ConfigOption.{ConfigOption}
+use Rattle.ppp_packet.specs.Options.{option_with}
 use Rattle.ppp_packet.specs.declared.proto.Proto.{Proto}
 use Rattle.ppp_packet.specs.declared.proto.Proto.TheVariants.{Lcp, Ip, Ipv6, Osi, Mpls, Bacp}
 use Rattle.ppp_auto.specs.Auto.{Auto, is_opened}
@@ -186,7 +187,7 @@ fits-if Osi one other fit = refl
 fits-if Mpls one other fit = refl
 fits-if Bacp one other fit = fit
 
-passes-if : (p : Proto) (rs ts : List Rule) (d : Duet) → AgreeBy p rs ts d → passes p rs ts d.a d.b ≡ true
+pub passes-if : (p : Proto) (rs ts : List Rule) (d : Duet) → AgreeBy p rs ts d → passes p rs ts d.a d.b ≡ true
 passes-if p rs ts d h =
     all-seven _ _ _ _ _ _ _
     (same_list-if d.a.auto.own d.b.auto.peer h.a_acked)
@@ -350,3 +351,49 @@ pub told-block : (k : ℕ) (e : Ends) → ((m : ℕ) (p : Proto) → 1 ≤ m →
 told-block k e never =
     let same = lines-same (λ m p. agree_on m p e) (λ m p. opened_on m p e.own.links e.other.links) (length e.own.links) e.own.links e.other.links (λ m p low high. told-opened m p e (never m p low high)) in
     rw same refl
+
+-- ---- the tests of a report are what agreement is
+
+same_option-only : (a b : ConfigOption) → same_option a b ≡ true → a ≡ b
+same_option-only a b h = same_fields a.kind b.kind a.body b.body (grind (arith, nat_tests)) ((bytes_eq-Decides a.body b.body).0 (grind (arith, nat_tests)))
+  where
+    same_fields : (kind other : ℕ) (body octets : List ℕ) → kind ≡ other → body ≡ octets → option_with kind body ≡ option_with other octets
+    same_fields kind other body octets h k = cc
+
+same_list-only : (one other : List ConfigOption) → same_list one other ≡ true → one ≡ other
+same_list-only [] [] h = refl
+same_list-only [] (b ∷ bs) h = cc
+same_list-only (a ∷ as') [] h = cc
+same_list-only (a ∷ as') (b ∷ bs) h =
+    let first = same_option-only a b (grind arith) in let rest = same_list-only as' bs (grind arith) in cc
+
+fits-only : (p : Proto) (one other : List ConfigOption) → fits p one other ≡ true → Fits p one other
+fits-only Lcp one other h = h
+fits-only Ip one other h = tt
+fits-only Ipv6 one other h = h
+fits-only Osi one other h = tt
+fits-only Mpls one other h = tt
+fits-only Bacp one other h = h
+
+each_seven : (a b c d e f g : Bool) → (a && b && c && d && e && f && g) ≡ true → (a ≡ true) × (b ≡ true) × (c ≡ true) × (d ≡ true) × (e ≡ true) × (f ≡ true) × (g ≡ true)
+each_seven true true true true true true true h = (refl, refl, refl, refl, refl, refl, refl)
+each_seven false b c d e f g h = absurd (cc)
+each_seven true false c d e f g h = absurd (cc)
+each_seven true true false d e f g h = absurd (cc)
+each_seven true true true false e f g h = absurd (cc)
+each_seven true true true true false f g h = absurd (cc)
+each_seven true true true true true false g h = absurd (cc)
+each_seven true true true true true true false h = absurd (cc)
+
+pub passes-only : (p : Proto) (rs ts : List Rule) (d : Duet) → passes p rs ts d.a d.b ≡ true → AgreeBy p rs ts d
+passes-only p rs ts d h =
+    let each = each_seven _ _ _ _ _ _ _ h in
+    record {
+      a_acked = same_list-only d.a.auto.own d.b.auto.peer each.0;
+      b_acked = same_list-only d.b.auto.own d.a.auto.peer each.1;
+      a_sends = each.2;
+      b_sends = each.3;
+      b_allows = each.4;
+      a_allows = each.5;
+      fits = fits-only p d.a.auto.own d.b.auto.own each.6;
+    }

@@ -4,12 +4,15 @@ use Rattle.std.specs.Prelude.{Option, Some, None, Result, Ok, Err, IfOk, IsSome}
 use Rattle.std.proofs.lemmas.List.Elements.{All-nil}
 use Rattle.std.proofs.lemmas.List.Sums.{sum_by-cons}
 use Rattle.ppp_conf.specs.Config.{Settings as Config}
+use Rattle.ppp_conf.specs.EndConfig.{EndSettings}
+use Rattle.ppp_station.proofs.OneStationLemmas.{same_links}
+use Rattle.ppp_station.specs.Station.{BeginsBy}
 use Rattle.ppp_link.specs.Link.{Link}
 use Rattle.ppp_script.specs.Event.{steps_in, steps_in_all}
 use Rattle.ppp_script.specs.declared.script.TheConstants.{MOST_STEPS}
 use Rattle.ppp_script.specs.declared.event.Event.{Event}
 use Rattle.ppp_world.specs.Refusal.{refusal_in}
-use Rattle.ppp_world.specs.Run.{Moment, run_from, run_of, place_after, place_begun, moments_of, report, refusal, before_refusal, AgreeEverywhere, AgreeThroughout}
+use Rattle.ppp_world.specs.Run.{Moment, run_from, run_of, place_after, place_begun, moments_of, report, report_of, refusal, before_refusal, AgreeEverywhere, AgreeThroughout}
 use Rattle.ppp_world.specs.Replay.{IsReplay}
 use Rattle.ppp_world.specs.World.{BothBegin, IsBegun, World, world_begun, world_after, answer_of, place_of, UnlessMemory}
 use Rattle.ppp_world.specs.declared.outstanding.Outstanding.{Outstanding as Outstanding'}
@@ -204,3 +207,22 @@ replays-stopped c all now next rest more event answer why refused octets same is
       stopped = did.1;
       agreement = record { first = agree-begun c far.own far.other same far.begin; each = did.2 };
     }
+
+-- ---- two stations that begin by the same settings are the same
+
+same-begin : (s : EndSettings) (one other : List Link) → BeginsBy s one → BeginsBy s other → one ≡ other
+same-begin s one other first second = same_links one other first.ready second.ready (first.settings ∙ sym second.settings)
+
+pub one-report : (c : Config) (events : List Event) (one other : List ℕ) (r s : Option Refusal) → IsReplay c events one r → IsReplay c events other s → one ≡ other
+one-report c events one other r s first second =
+    first.reported
+    ∙ ap (λ own. report_of own first.other events) (same-begin c.a first.own second.own first.begin.a second.begin.a)
+    ∙ ap (λ other. report_of second.own other events) (same-begin c.b first.other second.other first.begin.b second.begin.b)
+    ∙ sym second.reported
+
+pub one-refusal : (c : Config) (events : List Event) (one other : List ℕ) (r s : Option Refusal) → IsReplay c events one r → IsReplay c events other s → r ≡ s
+one-refusal c events one other r s first second =
+    first.stopped
+    ∙ ap (λ own. refusal (run_of own first.other events)) (same-begin c.a first.own second.own first.begin.a second.begin.a)
+    ∙ ap (λ other. refusal (run_of second.own other events)) (same-begin c.b first.other second.other first.begin.b second.begin.b)
+    ∙ sym second.stopped

@@ -1,8 +1,10 @@
 //! What holds of two ends in every run.
 
-ghost use Rattle.std.specs.Prelude.{◌≢◌};
+ghost use Rattle.std.specs.Prelude.{◌≡◌, ◌≢◌, ◌↔◌, ℕ, true, List, Option};
 ghost use Rattle.ppp_bacp.specs.declared.bacp_table.TheConstants.{FAVORED_PEER};
+ghost use Rattle.ppp_conf.specs.Config.{Settings};
 ghost use Rattle.ppp_duet.specs.Agreement.{Agreement};
+ghost use Rattle.ppp_duet.specs.Duet.{Duet};
 ghost use Rattle.ppp_duet.specs.Reopening.{Reopening};
 ghost use Rattle.ppp_lcp.specs.LcpKind.{kind_number};
 ghost use Rattle.ppp_lcp.specs.declared.lcp_kind.LcpKind.{LcpKind};
@@ -10,12 +12,16 @@ ghost use Rattle.ppp_lcp.specs.declared.lcp_kind.LcpKind.TheVariants.{Magic, Mrr
 ghost use Rattle.ppp_lcp.specs.LcpSettings.{settings_seen};
 ghost use Rattle.ppp_lcp.specs.LcpTable.{lcp_rules};
 ghost use Rattle.ppp_ncp.specs.declared.ipv6_table.TheConstants.{IDENTIFIER};
+ghost use Rattle.ppp_options.specs.Rule.{Rule};
 ghost use Rattle.ppp_options.specs.Rules.{Allows, Sendable};
+ghost use Rattle.ppp_script.specs.declared.event.Event.{Event};
 ghost use Rattle.ppp_link.specs.LinkTables.{LinkTables, lcp_table, table_of};
 ghost use Rattle.ppp_packet.specs.declared.proto.Proto.{Proto};
-ghost use Rattle.ppp_world.specs.Agreement.{Fits, rules_of};
+ghost use Rattle.ppp_world.specs.Agreement.{passes, rules_of, AgreeBy, Fits};
 ghost use Rattle.ppp_world.specs.Decided.{SettingsDecide};
 ghost use Rattle.ppp_world.specs.Difference.{Difference, BothHaveNumbers, OneFavoured};
+ghost use Rattle.ppp_world.specs.Replay.{IsReplay};
+ghost use Rattle.ppp_world.specs.declared.refusal.Refusal.{Refusal};
 
 use ppp_auto::OptionTable;
 use ppp_bacp::BacpTable;
@@ -57,4 +63,18 @@ pub fn hold_of_tables()
     ensures agreement { (p : Proto) (s t : LinkTables) → Agreement (λ k. table_of k p)
         (λ k. Sendable (rules_of k p)) (λ k. Allows (rules_of k p)) (Fits p) s t }
     ensures reopening { (p : Proto) (s t : LinkTables) → Reopening (table_of s p) (table_of t p) }
+{}
+
+/// What a report tells of two Opened ends is what agreement is: the tests of `agree` pass exactly where each end's list is
+/// what the other acknowledged last, may be asked for and was allowed, and the two lists fit.
+pub fn told()
+    ensures passes { (p : Proto) (rs ts : List Rule) (d : Duet) → passes p rs ts d.a d.b ≡ true ↔ AgreeBy p rs ts d }
+{}
+
+/// Settings and lines decide what a replay comes to, since two stations that begin by the same settings are the same.
+pub fn decided()
+    ensures report { (c : Settings) (events : List Event) (one other : List ℕ) (r s : Option Refusal) →
+        IsReplay c events one r → IsReplay c events other s → one ≡ other }
+    ensures refused { (c : Settings) (events : List Event) (one other : List ℕ) (r s : Option Refusal) →
+        IsReplay c events one r → IsReplay c events other s → r ≡ s }
 {}
