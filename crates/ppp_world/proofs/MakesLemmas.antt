@@ -1,5 +1,5 @@
 -- Each step of a world is a list of the events of the two ends of each protocol on each link.
-use Rattle.std.proofs.Common.{inl, inr, ◌≡◌, ◌⊎◌, ◌<◌, ℕ, zero, suc, ◌-◌, ◌≤◌, List, [], ◌∷◌, length, refl, sym, ap, subst, ◌∙◌, arith}
+use Rattle.std.proofs.Common.{inl, inr, ◌≡◌, ◌⊎◌, ◌<◌, ℕ, zero, suc, ◌+◌, ◌-◌, ◌≤◌, List, [], ◌∷◌, length, refl, sym, ap, subst, ◌∙◌, arith}
 use Rattle.std.specs.Prelude.{Option, Some, None, option_map, slice_get}
 use Rattle.std.proofs.lemmas.Option.{slice_get_past}
 use Rattle.ppp_duet.specs.Duet as duet
@@ -24,13 +24,14 @@ use Rattle.ppp_station.specs.Station.{IsOfLink, on_link}
 use Rattle.ppp_station.specs.StationOut.{AreShort}
 use Rattle.ppp_station.specs.Steps.{Takes}
 use Rattle.ppp_world.specs.Agreement.{auto_on, duet_on, duet_with, end_on, link_on}
-use Rattle.ppp_world.specs.Makes.{LeadsIn, MakesOn, RelatesOn, StandsOn, setup_on}
+use Rattle.ppp_world.specs.Makes.{IsRight, LeadsIn, MakesOn, RelatesOn, StandsOn, setup_on}
+use Rattle.ppp_world.specs.Run.{moment_at}
 use Rattle.ppp_world.specs.Step.{IsLinked, IsShort, moved, taken_entries, word_of}
 use Rattle.ppp_world.specs.World.{IsSound}
 use Rattle.ppp_world.specs.declared.step.Step.{Step}
 use Rattle.ppp_world.specs.declared.step.Step.TheVariants.{Happens, Delivers, Loses, Reboots, Reports, Rests}
 use Rattle.ppp_world.proofs.AgreementLemmas.{duet-lone, duet-nowhere, duet-unspoken, kept-duet, link_there, within-or}
-use Rattle.ppp_world.proofs.SoundLemmas.{no_frame, short-done, some_at, sound-turned, taken-short}
+use Rattle.ppp_world.proofs.SoundLemmas.{agree-kept, no_frame, short-done, some_at, sound-turned, step-after, taken-short}
 
 -- ---- the two ends of a protocol that both speak
 
@@ -145,3 +146,10 @@ makes-everywhere k steps e step s is short m p = by m (within-or m (length e.own
     by zero within = nowhere-makes k e _ step zero p refl
     by (suc before) (inl within) = step-makes k steps e step s is short (suc before) p (omega arith) within
     by (suc before) (inr beyond) = nowhere-makes k e _ step (suc before) p (slice_get_past e.own.links before (omega (arith, beyond)))
+
+-- all that is promised of a step
+pub right-moved : (steps : ℕ) (e : Ends) (step : Step) → IsSound e steps → IsLinked (length e.own.links) step → IsShort (steps + 1) e step → IsRight e (moment_at (record { done = steps; ends = e }) step)
+right-moved steps e step s is short = record {
+  agreed = agree-kept (moved (steps + 1) e step) (step-after (steps + 1) steps e step s is short).kept;
+  makes = makes-everywhere (steps + 1) steps e step s is short;
+}
