@@ -1,6 +1,7 @@
 -- Each step of a world is a list of the events of the two ends of each protocol on each link.
 use Rattle.std.proofs.Common.{inl, inr, ◌≡◌, ◌⊎◌, ◌<◌, ℕ, zero, suc, ◌+◌, ◌-◌, ◌≤◌, List, [], ◌∷◌, length, refl, sym, ap, subst, ◌∙◌, arith}
 use Rattle.std.specs.Prelude.{Option, Some, None, option_map, slice_get}
+use Rattle.std.specs.Option.{option_and_then}
 use Rattle.std.proofs.lemmas.Option.{slice_get_past}
 use Rattle.ppp_duet.specs.Duet as duet
 use Rattle.ppp_duet.specs.Duet.{Duet, End, Marked, Setup}
@@ -14,17 +15,19 @@ use Rattle.ppp_party.specs.Held.{IsHeld, KeptOn}
 use Rattle.ppp_party.specs.Kept.{Kept, duet_of}
 use Rattle.ppp_party.specs.Ledger.{first_id}
 use Rattle.ppp_party.specs.Party.{Ends, delivers, happens, loses, reboots, turned}
+use Rattle.ppp_party.specs.Spans.{queue_if, queue_on}
 use Rattle.ppp_party.specs.Seat.{IsSpoken, Seat, SeatAt, rebooted}
 use Rattle.ppp_party.specs.declared.happening.Happening.{Happening}
 use Rattle.ppp_party.proofs.KeptLemmas.{LedFrom, MadeFrom, delivers-made, happens-made, loses-made, reboots-led}
 use Rattle.ppp_party.proofs.RebootLemmas.{turned-leads, turned-makes}
+use Rattle.ppp_party.proofs.SeatLemmas.{delivers-link, done-read}
 use Rattle.ppp_party.proofs.SpansLemmas.{narrow-duet}
 use Rattle.ppp_script.specs.declared.end.End.TheVariants.{A, B}
 use Rattle.ppp_station.specs.Station.{IsOfLink, on_link}
 use Rattle.ppp_station.specs.StationOut.{AreShort}
-use Rattle.ppp_station.specs.Steps.{Takes}
+use Rattle.ppp_station.specs.Steps.{Takes, link_done}
 use Rattle.ppp_world.specs.Agreement.{auto_on, duet_on, duet_with, end_on, link_on}
-use Rattle.ppp_world.specs.Makes.{IsRight, LeadsIn, MakesOn, RelatesOn, StandsOn, setup_on}
+use Rattle.ppp_world.specs.Makes.{IsRight, LeadsIn, LendsIn, MakesOn, RelatesOn, StandsOn, lent_on, read_on, setup_on}
 use Rattle.ppp_world.specs.Run.{moment_at}
 use Rattle.ppp_world.specs.Step.{IsLinked, IsShort, moved, taken_entries, word_of}
 use Rattle.ppp_world.specs.World.{IsSound}
@@ -147,9 +150,33 @@ makes-everywhere k steps e step s is short m p = by m (within-or m (length e.own
     by (suc before) (inl within) = step-makes k steps e step s is short (suc before) p (omega arith) within
     by (suc before) (inr beyond) = nowhere-makes k e _ step (suc before) p (slice_get_past e.own.links before (omega (arith, beyond)))
 
+-- ---- what a delivery lends
+
+queue-front : (o : Option (List Frame)) (f : Frame) (rest : List Frame) → queue_if o ≡ f ∷ rest → o ≡ Some (f ∷ rest)
+queue-front None f rest is = absurd (cc)
+queue-front (Some queue) f rest is = ap Some is
+
+delivers-lends : (l word : ℕ) (e : Ends) → IsOfLink (length e.own.links) l → (f : Frame) (rest : List Frame) → queue_on l e.own ≡ f ∷ rest →
+    lent_on l (delivers l word e).own.links ≡ option_and_then (read_on f.octets) (link_on l e.own.links)
+delivers-lends l word e is f rest front =
+    let k = some_at e.own.links (l - 1) (omega (arith, is.0, is.1)) in
+    let new = (link_done (Takes f.octets) l k.0 word).link in
+    let after = link_there l (delivers l word e).own.links new is.0 (delivers-link l word e k.0 f rest is.0 k.1 (queue-front (slice_get e.own.incoming (l - 1)) f rest front)) in
+    ap (option_and_then (λ (k : Link). k.deframer.frame)) after ∙ done-read f.octets l word k.0 ∙ sym (ap (option_and_then (read_on f.octets)) (link_there l e.own.links k.0 is.0 k.1))
+
+step-lends : (k : ℕ) (e : Ends) (step : Step) → length e.other.links ≡ length e.own.links → IsLinked (length e.own.links) step → LendsIn step e (moved k e step)
+step-lends k e (Delivers A l) alike is = delivers-lends l (word_of A k) e is
+step-lends k e (Delivers B l) alike is = delivers-lends l (word_of B k) (turned e) (is.0, omega (arith, is.1, alike))
+step-lends k e (Happens at l what) alike is = tt
+step-lends k e (Loses at l place) alike is = tt
+step-lends k e (Reboots at) alike is = tt
+step-lends k e Reports alike is = tt
+step-lends k e Rests alike is = tt
+
 -- all that is promised of a step
 pub right-moved : (steps : ℕ) (e : Ends) (step : Step) → IsSound e steps → IsLinked (length e.own.links) step → IsShort (steps + 1) e step → IsRight e (moment_at (record { done = steps; ends = e }) step)
 right-moved steps e step s is short = record {
   agreed = agree-kept (moved (steps + 1) e step) (step-after (steps + 1) steps e step s is short).kept;
   makes = makes-everywhere (steps + 1) steps e step s is short;
+  lends = step-lends (steps + 1) e step s.alike is;
 }

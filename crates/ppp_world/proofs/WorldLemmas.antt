@@ -6,7 +6,7 @@ use Rattle.std.proofs.lemmas.List.{append-nil}
 use Rattle.std.proofs.lemmas.List.Elements.{All-nil, All-cons, All-head, All-tail}
 use Rattle.ppp_party.specs.Party.{Ends}
 use Rattle.ppp_script.specs.declared.event.Event.{Event}
-use Rattle.ppp_world.specs.Makes.{AllRight, IsRight, MakeThroughout, Throughout}
+use Rattle.ppp_world.specs.Makes.{AllRight, IsRight, LendThroughout, MakeThroughout, Throughout}
 use Rattle.ppp_world.specs.Outstanding.{outstanding_in}
 use Rattle.ppp_world.specs.Run.{Moment, Place, moment_at, after_moment, deliveries, moments_of, place_after, run_from, shown, shown_at, report, refusal, refusal_with, before_refusal, kept_with, AgreeEverywhere, AgreeThroughout}
 use Rattle.ppp_world.specs.Step.{moved, next_delivery, settling, step_of}
@@ -340,7 +340,7 @@ pub event-right : (now next : World) (event : Event) (step : Step) → settling 
     UnlessMemory next.halt (next ≡ does_step now step) → (next.halt ≡ None → IsRight now.ends (moment_at (place_of now) step)) → UnlessMemory next.halt (AllRight now.ends (before_refusal (moments_of event (place_of now))))
 event-right now next event step one is going done right = rw (one, ← is) (one-right now next step going done right)
 
--- in particular two Opened ends agree, and each step is a list of the two ends' events
+-- in particular two Opened ends agree, each step is a list of the two ends' events, and a delivery lends its frame
 rights-agree : (e : Ends) (ms : List Moment) → AllRight e ms → AgreeThroughout ms
 rights-agree e [] right = All-nil (λ (x : Moment). AgreeEverywhere x.after)
 rights-agree e (m ∷ ms) right = All-cons (λ (x : Moment). AgreeEverywhere x.after) m ms right.0.agreed (rights-agree m.after ms right.1)
@@ -349,11 +349,18 @@ rights-make : (e : Ends) (ms : List Moment) → AllRight e ms → MakeThroughout
 rights-make e [] right = tt
 rights-make e (m ∷ ms) right = (right.0.makes, rights-make m.after ms right.1)
 
+rights-lend : (e : Ends) (ms : List Moment) → AllRight e ms → LendThroughout e ms
+rights-lend e [] right = tt
+rights-lend e (m ∷ ms) right = (right.0.lends, rights-lend m.after ms right.1)
+
 pub unless-agree : (o : Option WorldFault) (e : Ends) (ms : List Moment) → UnlessMemory o (AllRight e ms) → UnlessMemory o (AgreeThroughout ms)
 unless-agree o e ms right = unless_map o right (rights-agree e ms)
 
 pub unless-make : (o : Option WorldFault) (e : Ends) (ms : List Moment) → UnlessMemory o (AllRight e ms) → UnlessMemory o (MakeThroughout e ms)
 unless-make o e ms right = unless_map o right (rights-make e ms)
+
+pub unless-lend : (o : Option WorldFault) (e : Ends) (ms : List Moment) → UnlessMemory o (AllRight e ms) → UnlessMemory o (LendThroughout e ms)
+unless-lend o e ms right = unless_map o right (rights-lend e ms)
 
 -- the world goes on, so what it keeps holds
 pub sound-world : (ends : Ends) (steps : ℕ) (halt : Option WorldFault) (w : World) → IsSoundUnless halt ends steps → world_of ends steps w.report halt ≡ w → w.halt ≡ None → IsSound ends steps

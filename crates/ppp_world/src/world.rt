@@ -6,7 +6,7 @@ ghost use Rattle.ppp_conf.specs.Config.{config_seen};
 ghost use Rattle.ppp_script.specs.Event.{steps_in};
 ghost use Rattle.ppp_script.specs.declared.script.TheConstants.{MOST_STEPS};
 ghost use Rattle.ppp_world.specs.Agreement.{agree_on, AreOpenedOn};
-ghost use Rattle.ppp_world.specs.Makes.{AllRight, IsRight, MakeThroughout};
+ghost use Rattle.ppp_world.specs.Makes.{AllRight, IsRight, LendThroughout, MakeThroughout};
 ghost use Rattle.ppp_world.specs.Run.{before_refusal, deliveries, moment_at, moments_of, shown_at, AgreeEverywhere, AgreeThroughout};
 ghost use Rattle.ppp_world.specs.Step.{next_delivery, IsLinked};
 ghost use Rattle.ppp_world.specs.World.{answer_of, does_step, fault_in, place_of, settled, world_after, world_of, IsBegun, IsSound, UnlessMemory};
@@ -64,7 +64,7 @@ impl World {
     /// Does the steps of an event. Outstanding comes exactly where one of them would make an end's requests under way
     /// span more than 255 ordinals: those before it are done and counted. After a refusal no further step is done, and
     /// every call gives the same refusal. After each step two Opened ends of a protocol agree, on each link, and each step is
-    /// for the two ends of a protocol a list of their own events.
+    /// for the two ends of a protocol a list of their own events. A delivery's link lends the frame that its octets read as.
     pub fn step(&mut self, event: &Event) -> Result<(), WorldFault>
         requires { self.old.steps + steps_in event.now ≤ MOST_STEPS }
         ensures done { UnlessMemory self.new.halt (self.new ≡ world_after self.old event.now) }
@@ -72,6 +72,8 @@ impl World {
             (AgreeThroughout (before_refusal (moments_of event.now (place_of self.old)))) }
         ensures makes { self.old.halt ≡ None → UnlessMemory self.new.halt
             (MakeThroughout self.old.ends (before_refusal (moments_of event.now (place_of self.old)))) }
+        ensures lends { self.old.halt ≡ None → UnlessMemory self.new.halt
+            (LendThroughout self.old.ends (before_refusal (moments_of event.now (place_of self.old)))) }
         ensures answer { result ≡ answer_of self.new.halt }
         ensures halted { IsSome self.old.halt → self.new ≡ self.old }
         ensures steps { self.new.steps ≤ self.old.steps + steps_in event.now }
