@@ -71,44 +71,66 @@ queues-at m e s o own other = record {
   outgoing = let both : Some o.outgoing ≡ Some s.incoming = sym other.outgoing ∙ own.incoming in cc;
 }
 
+-- ---- what an event makes of two ends that both speak it
+
+-- they do so still, and a list of their events leads there
+pub record MadeFrom (sa sb : Setup) (p : Proto) (m : ℕ) (before : Duet) (after : Ends) : Type 0 where
+  pub kept : Kept sa sb p m after
+  pub makes : Makes sa sb before (duet_of kept)
+
+-- the same of a list that delivers nothing
+pub record LedFrom (sa sb : Setup) (p : Proto) (m : ℕ) (before : Duet) (after : Ends) : Type 0 where
+  pub kept : Kept sa sb p m after
+  pub leads : Leads sa sb before (duet_of kept)
+
 -- an event at the own end
-pub came-kept : (sa sb : Setup) (p : Proto) (m : ℕ) (before after : Ends) (k : Kept sa sb p m before) → IsSame before after → Narrow (duet_of k) →
-    Came sa sb p m k.own k.own_auto (end_of k.other_auto (ledger_at k.other.ledgers p)) after → Kept sa sb p m after
-came-kept sa sb p m before after k same narrow came =
+pub came-made : (sa sb : Setup) (p : Proto) (m : ℕ) (before after : Ends) (k : Kept sa sb p m before) → IsSame before after → Narrow (duet_of k) →
+    Came sa sb p m k.own k.own_auto (end_of k.other_auto (ledger_at k.other.ledgers p)) after → MadeFrom sa sb p m (duet_of k) after
+came-made sa sb p m before after k same narrow came =
     let queues = queues-at m before k.own k.other k.own_seated.at k.other_seated.at in
     let few = k.other_seated.well.few in
     record {
-      own = came.seat;
-      other = other_with k.other came.seat;
-      own_auto = came.auto;
-      other_auto = k.other_auto;
-      own_seated = came.seated;
-      other_seated = record {
-        at = other-at m before after k.other came.seat same k.other_seated.at came.seated.at;
-        well = record {
-          settled = k.other_seated.well.settled;
-          incoming = came.seated.well.outgoing;
-          outgoing = came.seated.well.incoming;
-          few = omega (arith, came.fewer, few, ap length queues.outgoing);
+      kept = record {
+        own = came.seat;
+        other = other_with k.other came.seat;
+        own_auto = came.auto;
+        other_auto = k.other_auto;
+        own_seated = came.seated;
+        other_seated = record {
+          at = other-at m before after k.other came.seat same k.other_seated.at came.seated.at;
+          well = record {
+            settled = k.other_seated.well.settled;
+            incoming = came.seated.well.outgoing;
+            outgoing = came.seated.well.incoming;
+            few = omega (arith, came.fewer, few, ap length queues.outgoing);
+          };
+          end = record { spoken = k.other_seated.end.spoken; auto = k.other_seated.end.auto; kept = k.other_seated.end.kept };
         };
-        end = record { spoken = k.other_seated.end.spoken; auto = k.other_seated.end.auto; kept = k.other_seated.end.kept };
+        reached = reached-makes sa sb _ _ narrow came.makes k.reached;
       };
-      reached = reached-makes sa sb _ _ narrow came.makes k.reached;
+      makes = came.makes;
     }
+
+pub came-kept : (sa sb : Setup) (p : Proto) (m : ℕ) (before after : Ends) (k : Kept sa sb p m before) → IsSame before after → Narrow (duet_of k) →
+    Came sa sb p m k.own k.own_auto (end_of k.other_auto (ledger_at k.other.ledgers p)) after → Kept sa sb p m after
+came-kept sa sb p m before after k same narrow came = (came-made sa sb p m before after k same narrow came).kept
 
 pub reached-leads : (sa sb : Setup) (a b : Duet) → Leads sa sb a b → Reached sa sb a → Reached sa sb b
 reached-leads sa sb a b l reached = subst (Reached sa sb) l.leads (reached_more sa sb a l.events (none-taken sa sb l.events a l.none) reached)
 
 -- both ends as they begin, and one that begins anew
-pub anew-kept : (sa sb : Setup) (p : Proto) (m : ℕ) (d : Duet) (after : Ends) → Reached sa sb d → Anew sa sb p m d after → Kept sa sb p m after
-anew-kept sa sb p m d after reached anew = record {
-  own = anew.own;
-  other = anew.other;
-  own_auto = anew.own_auto;
-  other_auto = anew.other_auto;
-  own_seated = anew.own_seated;
-  other_seated = anew.other_seated;
-  reached = reached-leads sa sb d _ anew.leads reached;
+anew-led : (sa sb : Setup) (p : Proto) (m : ℕ) (d : Duet) (after : Ends) → Reached sa sb d → Anew sa sb p m d after → LedFrom sa sb p m d after
+anew-led sa sb p m d after reached anew = record {
+  kept = record {
+    own = anew.own;
+    other = anew.other;
+    own_auto = anew.own_auto;
+    other_auto = anew.other_auto;
+    own_seated = anew.own_seated;
+    other_seated = anew.other_seated;
+    reached = reached-leads sa sb d _ anew.leads reached;
+  };
+  leads = anew.leads;
 }
 
 -- ---- seen from the other end
@@ -169,26 +191,42 @@ loses-same l place e = record { links = refl; ledgers = refl }
 pub begins-kept : (sa sb : Setup) (p : Proto) (m : ℕ) (own other : List Link) (k j : Link) → slice_get own (m - 1) ≡ Some k → slice_get other (m - 1) ≡ Some j →
     k ≡ link_ready k.tables → j ≡ link_ready j.tables → IsSpoken sa p k.tables → IsSpoken sb p j.tables → Kept sa sb p m (ends_begun own other)
 begins-kept sa sb p m own other k j there here ready steady spoken heard =
-    anew-kept sa sb p m (start sa sb) _ (reached_start sa sb) (begins-came sa sb p m own other k j there here ready steady spoken heard)
+    (anew-led sa sb p m (start sa sb) _ (reached_start sa sb) (begins-came sa sb p m own other k j there here ready steady spoken heard)).kept
+
+pub happens-made : (sa sb : Setup) (p : Proto) (what : Happens) (l m word : ℕ) (e : Ends) (j : Link) (k : Kept sa sb p m e) → 1 ≤ l → 1 ≤ m → Narrow (duet_of k) → slice_get e.own.links (l - 1) ≡ Some j →
+    IsNoFrame what → AreShort (link_done what l j word).out → MadeFrom sa sb p m (duet_of k) (happens what l word e)
+happens-made sa sb p what l m word e j k low least narrow there quiet short =
+    came-made sa sb p m e _ k (happens-same what l word e) narrow
+    (happens-came sa sb p what l m word e k.own j k.own_auto (end_of k.other_auto (ledger_at k.other.ledgers p)) low least there quiet short k.own_seated.at k.own_seated.well k.own_seated.end)
+
+pub delivers-made : (sa sb : Setup) (p : Proto) (l m word : ℕ) (e : Ends) (j : Link) (k : Kept sa sb p m e) → 1 ≤ l → 1 ≤ m → Narrow (duet_of k) → slice_get e.own.links (l - 1) ≡ Some j →
+    ((f : Frame) (rest : List Frame) → slice_get e.own.incoming (l - 1) ≡ Some (f ∷ rest) → AreShort (link_done (Takes f.octets) l j word).out) → MadeFrom sa sb p m (duet_of k) (delivers l word e)
+delivers-made sa sb p l m word e j k low least narrow there short =
+    came-made sa sb p m e _ k (delivers-same l word e) narrow
+    (delivers-came sa sb p l m word e k.own j k.own_auto (end_of k.other_auto (ledger_at k.other.ledgers p)) low least there short k.own_seated.at k.own_seated.well k.own_seated.end)
+
+pub loses-made : (sa sb : Setup) (p : Proto) (l m place : ℕ) (e : Ends) (k : Kept sa sb p m e) → 1 ≤ l → 1 ≤ m → Narrow (duet_of k) → MadeFrom sa sb p m (duet_of k) (loses l place e)
+loses-made sa sb p l m place e k low least narrow =
+    came-made sa sb p m e _ k (loses-same l place e) narrow
+    (loses-came sa sb p l m place e k.own k.own_auto (end_of k.other_auto (ledger_at k.other.ledgers p)) low least k.own_seated.at k.own_seated.well k.own_seated.end)
+
+pub reboots-led : (sa sb : Setup) (p : Proto) (m word : ℕ) (e : Ends) (k : Kept sa sb p m e) → 1 ≤ m → LedFrom sa sb p m (rebooted sa sb word (duet_of k)) (reboots word e)
+reboots-led sa sb p m word e k least =
+    anew-led sa sb p m (rebooted sa sb word (duet_of k)) _ (reached_on sa sb (duet_of k) (record { side = duet.A; what = duet.Reboots; word = word }) (λ same. absurd (cc)) k.reached)
+    (reboots-came sa sb p m word e k.own k.other k.own_auto k.other_auto least k.own_seated.at k.own_seated.end k.other_seated.at k.other_seated.well.settled k.other_seated.end)
+
+-- ---- what is kept
 
 pub happens-kept : (sa sb : Setup) (p : Proto) (what : Happens) (l m word : ℕ) (e : Ends) (j : Link) (k : Kept sa sb p m e) → 1 ≤ l → 1 ≤ m → Narrow (duet_of k) → slice_get e.own.links (l - 1) ≡ Some j →
     IsNoFrame what → AreShort (link_done what l j word).out → Kept sa sb p m (happens what l word e)
-happens-kept sa sb p what l m word e j k low least narrow there quiet short =
-    came-kept sa sb p m e _ k (happens-same what l word e) narrow
-    (happens-came sa sb p what l m word e k.own j k.own_auto (end_of k.other_auto (ledger_at k.other.ledgers p)) low least there quiet short k.own_seated.at k.own_seated.well k.own_seated.end)
+happens-kept sa sb p what l m word e j k low least narrow there quiet short = (happens-made sa sb p what l m word e j k low least narrow there quiet short).kept
 
 pub delivers-kept : (sa sb : Setup) (p : Proto) (l m word : ℕ) (e : Ends) (j : Link) (k : Kept sa sb p m e) → 1 ≤ l → 1 ≤ m → Narrow (duet_of k) → slice_get e.own.links (l - 1) ≡ Some j →
     ((f : Frame) (rest : List Frame) → slice_get e.own.incoming (l - 1) ≡ Some (f ∷ rest) → AreShort (link_done (Takes f.octets) l j word).out) → Kept sa sb p m (delivers l word e)
-delivers-kept sa sb p l m word e j k low least narrow there short =
-    came-kept sa sb p m e _ k (delivers-same l word e) narrow
-    (delivers-came sa sb p l m word e k.own j k.own_auto (end_of k.other_auto (ledger_at k.other.ledgers p)) low least there short k.own_seated.at k.own_seated.well k.own_seated.end)
+delivers-kept sa sb p l m word e j k low least narrow there short = (delivers-made sa sb p l m word e j k low least narrow there short).kept
 
 pub loses-kept : (sa sb : Setup) (p : Proto) (l m place : ℕ) (e : Ends) (k : Kept sa sb p m e) → 1 ≤ l → 1 ≤ m → Narrow (duet_of k) → Kept sa sb p m (loses l place e)
-loses-kept sa sb p l m place e k low least narrow =
-    came-kept sa sb p m e _ k (loses-same l place e) narrow
-    (loses-came sa sb p l m place e k.own k.own_auto (end_of k.other_auto (ledger_at k.other.ledgers p)) low least k.own_seated.at k.own_seated.well k.own_seated.end)
+loses-kept sa sb p l m place e k low least narrow = (loses-made sa sb p l m place e k low least narrow).kept
 
 pub reboots-kept : (sa sb : Setup) (p : Proto) (m word : ℕ) (e : Ends) (k : Kept sa sb p m e) → 1 ≤ m → Kept sa sb p m (reboots word e)
-reboots-kept sa sb p m word e k least =
-    anew-kept sa sb p m (rebooted sa sb word (duet_of k)) _ (reached_on sa sb (duet_of k) (record { side = duet.A; what = duet.Reboots; word = word }) (λ same. absurd (cc)) k.reached)
-    (reboots-came sa sb p m word e k.own k.other k.own_auto k.other_auto least k.own_seated.at k.own_seated.end k.other_seated.at k.other_seated.well.settled k.other_seated.end)
+reboots-kept sa sb p m word e k least = (reboots-led sa sb p m word e k least).kept

@@ -2,7 +2,7 @@ pub mod DoneLemmas
 mod DownLemmas
 mod HeardLemmas
 pub mod HeldLemmas
-mod KeptLemmas
+pub mod KeptLemmas
 mod LedgerLemmas
 pub mod ListLemmas
 mod LoneLemmas
@@ -12,10 +12,10 @@ mod PostLemmas
 mod QueueLemmas
 mod ReadLemmas
 mod ReaderLemmas
-mod RebootLemmas
+pub mod RebootLemmas
 mod ResultLemmas
 pub mod SeatLemmas
 mod SendLemmas
 mod SentLemmas
-mod SpansLemmas
+pub mod SpansLemmas
 mod StepLemmas

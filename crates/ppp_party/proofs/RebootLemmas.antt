@@ -453,7 +453,7 @@ unfolding flipped
 flip-first [] first = tt
 flip-first (e ∷ es) first = (first.0, flip-none es first.1)
 
-turned-leads : (sa sb : Setup) (a b : Duet) → Leads sa sb a b → Leads sb sa (duet.turned a) (duet.turned b)
+pub turned-leads : (sa sb : Setup) (a b : Duet) → Leads sa sb a b → Leads sb sa (duet.turned a) (duet.turned b)
 turned-leads sa sb a b l = record { events = map flipped l.events; none = flip-none l.events l.none; leads = sym (flip-run sa sb l.events a) ∙ ap duet.turned l.leads }
 
 -- what is a list of events for one end is one for the other

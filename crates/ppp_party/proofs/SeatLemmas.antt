@@ -53,6 +53,11 @@ works-deframer l word (e ∷ es) done = works-deframer l word es (works_one l wo
 done-deframer : (what : Happening) (l word : ℕ) (k : Link) → (link_done what l k word).link.deframer ≡ (link_does what k word).link.deframer
 done-deframer what l word k = let fed = link_does what k word in works-deframer l word fed.out (record { link = fed.link; out = [] })
 
+-- it lends the frame that the octets that came read as
+pub done-read : (octets : List ℕ) (l word : ℕ) (k : Link) → (link_done (Takes octets) l k word).link.deframer.frame ≡ (feed_step (read_by k.automata.lcp k.deframer) octets).left.frame
+unfolding fed_with
+done-read octets l word k = ap (λ d. d.frame) (done-deframer (Takes octets) l word k)
+
 -- a deframer stands as after a flag, and reads as much as before
 record StandsSo (d : DeframerState) : Type 0 where
   stands : d.standing ≡ fresh
@@ -306,3 +311,14 @@ loses-by sa sb p l m place e s a b low least at well end (inr other) =
 
 pub loses-came : (sa sb : Setup) (p : Proto) (l m place : ℕ) (e : Ends) (s : Seat) (a : Auto) (b : End) → 1 ≤ l → 1 ≤ m → SeatAt m e s → IsWell s → IsEnd sa p s a → Came sa sb p m s a b (loses l place e)
 loses-came sa sb p l m place e s a b low least at well end = loses-by sa sb p l m place e s a b low least at well end (same-or m l)
+
+-- ---- the link that a frame is delivered to
+
+front-link : (l word : ℕ) (e : Ends) (k : Link) (f : Frame) (rest : List Frame) (o : Option (List Frame)) → o ≡ Some (f ∷ rest) → 1 ≤ l → slice_get e.own.links (l - 1) ≡ Some k →
+    slice_get (taking_front l word o e).own.links (l - 1) ≡ Some (link_done (Takes f.octets) l k word).link
+front-link l word e k f rest o is low there = rw is (own-link (Takes f.octets) l word e.own.links k low there)
+
+pub delivers-link : (l word : ℕ) (e : Ends) (k : Link) (f : Frame) (rest : List Frame) → 1 ≤ l → slice_get e.own.links (l - 1) ≡ Some k → slice_get e.own.incoming (l - 1) ≡ Some (f ∷ rest) →
+    slice_get (delivers l word e).own.links (l - 1) ≡ Some (link_done (Takes f.octets) l k word).link
+unfolding delivers
+delivers-link l word e k f rest low there front = front-link l word e k f rest (slice_get e.own.incoming (l - 1)) front low there

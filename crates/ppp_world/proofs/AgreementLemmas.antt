@@ -174,6 +174,11 @@ duet-there : (sa sb : Setup) (p : Proto) (m : ℕ) (e : Ends) (k : Kept sa sb p 
     duet_on m p e ≡ Some (duet_of k)
 duet-there sa sb p m e k own other = rw (own.end, other.end, k.own_seated.at.incoming, k.own_seated.at.outgoing) refl
 
+pub kept-duet : (sa sb : Setup) (p : Proto) (m : ℕ) (e : Ends) → 1 ≤ m → (k : Kept sa sb p m e) → duet_on m p e ≡ Some (duet_of k)
+kept-duet sa sb p m e low k =
+    duet-there sa sb p m e k (end-there m p e k.own k.own_auto low k.own_seated.at k.own_seated.end.auto)
+    (end-there m p (turned e) k.other k.other_auto low k.other_seated.at k.other_seated.end.auto)
+
 -- ---- the tests pass where two ends agree
 
 all-seven : (a b c d e f g : Bool) → a ≡ true → b ≡ true → c ≡ true → d ≡ true → e ≡ true → f ≡ true → g ≡ true → (a && b && c && d && e && f && g) ≡ true
@@ -260,6 +265,16 @@ lone-absent : (m : ℕ) (p : Proto) (e : Ends) → 1 ≤ m → IsLone m p e → 
 lone-absent m p e low lone =
     auto-there m p e.other.links lone.other.link (link_there m e.other.links lone.other.link low lone.other_at.link) ∙ lone.silent
 
+-- no two ends then
+pub duet-nowhere : (m : ℕ) (p : Proto) (e : Ends) → auto_on m p e.own.links ≡ None → duet_on m p e ≡ None
+duet-nowhere m p e none = rw (end-absent m p e.own none) refl
+
+pub duet-lone : (m : ℕ) (p : Proto) (e : Ends) → 1 ≤ m → IsLone m p e → duet_on m p e ≡ None
+duet-lone m p e low lone = rw (end-absent m p e.other (lone-absent m p e low lone)) (duet-absent _ _ (end_on m p e.own))
+
+pub duet-unspoken : (m : ℕ) (p : Proto) (e : Ends) → 1 ≤ m → IsLone m p (turned e) → duet_on m p e ≡ None
+duet-unspoken m p e low lone = duet-nowhere m p e (lone-absent m p (turned e) low lone)
+
 -- where there is no such link
 pub agrees-nowhere : (m : ℕ) (p : Proto) (e : Ends) → link_on m e.own.links ≡ None → AgreesOn m p e
 agrees-nowhere m p e none = own-absent m p e (rw none refl)
@@ -279,7 +294,7 @@ agrees-within e held zero p within = agrees-nowhere zero p e refl
 agrees-within e held (suc before) p (inl within) = agrees-on (suc before) p e (omega arith) (held (suc before) p (omega arith) within)
 agrees-within e held (suc before) p (inr beyond) = agrees-nowhere (suc before) p e (slice_get_past e.own.links before (omega (arith, beyond)))
 
-within-or : (m n : ℕ) → (m ≤ n) ⊎ (n < m)
+pub within-or : (m n : ℕ) → (m ≤ n) ⊎ (n < m)
 within-or m n = grind (arith, nat_tests)
 
 pub agrees-everywhere : (e : Ends) → ((m : ℕ) (p : Proto) → 1 ≤ m → m ≤ length e.own.links → IsHeld m p e) → (m : ℕ) (p : Proto) → AgreesOn m p e

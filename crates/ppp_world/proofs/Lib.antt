@@ -2,6 +2,7 @@ pub mod AgreementLemmas
 pub mod CountedLemmas
 pub mod DecidedLemmas
 pub mod DifferenceLemmas
+pub mod MakesLemmas
 pub mod ReplayLemmas
 pub mod RunLemmas
 pub mod ReportLemmas

@@ -86,15 +86,15 @@ kept-after l e after alike step = record {
 
 -- ---- the steps on a link of the first end
 
-some_at : (links : List Link) (i : ℕ) → i < length links → (k : Link) × (slice_get links i ≡ Some k)
+pub some_at : (links : List Link) (i : ℕ) → i < length links → (k : Link) × (slice_get links i ≡ Some k)
 some_at [] i below = absurd (omega arith)
 some_at (k ∷ ks) zero below = (k, refl)
 some_at (k ∷ ks) (suc i) below = some_at ks i (omega arith)
 
-short-done : (what : Does) (l word : ℕ) (links : List Link) (k : Link) → slice_get links (l - 1) ≡ Some k → AreShort (on_link what l links word).out.entries → AreShort (link_done what l k word).out
+pub short-done : (what : Does) (l word : ℕ) (links : List Link) (k : Link) → slice_get links (l - 1) ≡ Some k → AreShort (on_link what l links word).out.entries → AreShort (link_done what l k word).out
 short-done what l word links k is short = rw is at short
 
-no_frame : (what : Happening) → IsNoFrame (happening_seen what)
+pub no_frame : (what : Happening) → IsNoFrame (happening_seen what)
 no_frame what.LineUp = tt
 no_frame what.LineDown = tt
 no_frame (what.Opens p) = tt
@@ -132,7 +132,7 @@ module _ (e : Ends) (steps : ℕ) (sound : IsSound e steps) (l : ℕ) (is : IsOf
 
 -- ---- each step
 
-taken-short : (l word : ℕ) (party : Party) → AreShort (taken_entries l party.links word (slice_get party.incoming (l - 1))) → (f : Frame) (rest : List Frame) →
+pub taken-short : (l word : ℕ) (party : Party) → AreShort (taken_entries l party.links word (slice_get party.incoming (l - 1))) → (f : Frame) (rest : List Frame) →
     slice_get party.incoming (l - 1) ≡ Some (f ∷ rest) → AreShort (on_link (Takes f.octets) l party.links word).out.entries
 taken-short l word party short f rest front = rw front at short
 
@@ -245,7 +245,7 @@ kept-begun c own other same begin =
 
 -- ---- two Opened ends agree
 
-agree-kept : (e : Ends) → IsKept e → AgreeEverywhere e
+pub agree-kept : (e : Ends) → IsKept e → AgreeEverywhere e
 agree-kept e kept = agrees-everywhere e kept.held
 
 pub agree-sound : (e : Ends) (steps : ℕ) → IsSound e steps → AgreeEverywhere e

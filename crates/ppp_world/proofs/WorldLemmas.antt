@@ -6,6 +6,7 @@ use Rattle.std.proofs.lemmas.List.{append-nil}
 use Rattle.std.proofs.lemmas.List.Elements.{All-nil, All-cons, All-head, All-tail}
 use Rattle.ppp_party.specs.Party.{Ends}
 use Rattle.ppp_script.specs.declared.event.Event.{Event}
+use Rattle.ppp_world.specs.Makes.{AllRight, IsRight, LendThroughout, MakeThroughout, Throughout}
 use Rattle.ppp_world.specs.Outstanding.{outstanding_in}
 use Rattle.ppp_world.specs.Run.{Moment, Place, moment_at, after_moment, deliveries, moments_of, place_after, run_from, shown, shown_at, report, refusal, refusal_with, before_refusal, kept_with, AgreeEverywhere, AgreeThroughout}
 use Rattle.ppp_world.specs.Step.{moved, next_delivery, settling, step_of}
@@ -195,16 +196,13 @@ SoFar (Some Memory) rest whole = ⊤
 SoFar (Some (Outstanding fault)) rest whole = whole
 
 -- a moment is done, or refused
-pub agreed-moment : (now next : World) (m : Moment) (ms : List Moment) (whole : Type 0) → now.halt ≡ None → UnlessMemory next.halt (next ≡ does_moment now m) →
-    (next.halt ≡ None → AgreeEverywhere next.ends) → (AgreeThroughout (before_refusal (m ∷ ms)) → whole) → SoFar next.halt (AgreeThroughout (before_refusal ms)) whole
-agreed-moment now next m ms whole going done agreed all = by_halt next.halt refl done (outstanding_in m.after) refl
+right-moment : (now next : World) (m : Moment) (ms : List Moment) (whole : Type 0) → now.halt ≡ None → UnlessMemory next.halt (next ≡ does_moment now m) →
+    (next.halt ≡ None → IsRight now.ends m) → (AllRight now.ends (before_refusal (m ∷ ms)) → whole) → SoFar next.halt (AllRight m.after (before_refusal ms)) whole
+right-moment now next m ms whole going done right all = by_halt next.halt refl done (outstanding_in m.after) refl
   where
     by_halt : (o : Option WorldFault) → next.halt ≡ o → UnlessMemory o (next ≡ does_moment now m) → (fault : Option Outstanding') → outstanding_in m.after ≡ fault →
-        SoFar o (AgreeThroughout (before_refusal ms)) whole
-    by_halt None on did None none =
-        let is : next ≡ written_by now m None = did ∙ open_moment now m going ∙ ap (written_by now m) none in
-        let here = subst AgreeEverywhere (ap (λ (w : World). w.ends) is) (agreed on) in
-        λ rest. all (rw none (All-cons (λ (x : Moment). AgreeEverywhere x.after) m (before_refusal ms) here rest))
+        SoFar o (AllRight m.after (before_refusal ms)) whole
+    by_halt None on did None none = λ rest. all (rw none (right on, rest))
     by_halt None on did (Some fault) some =
         let is : next ≡ written_by now m (Some fault) = did ∙ open_moment now m going ∙ ap (written_by now m) some in
         absurd (let halted = ap (λ (w : World). w.halt) is in cc)
@@ -212,7 +210,7 @@ agreed-moment now next m ms whole going done agreed all = by_halt next.halt refl
     by_halt (Some (Outstanding why)) on did None none =
         let is : next ≡ written_by now m None = did ∙ open_moment now m going ∙ ap (written_by now m) none in
         absurd (let halted = ap (λ (w : World). w.halt) is in cc)
-    by_halt (Some (Outstanding why)) on did (Some fault) some = all (rw some (All-nil (λ (x : Moment). AgreeEverywhere x.after)))
+    by_halt (Some (Outstanding why)) on did (Some fault) some = all (rw some tt)
 
 -- moments behind others count where none of those was refused
 agree-append : (ms ns : List Moment) → refusal ms ≡ None → AgreeThroughout (before_refusal ms) → AgreeThroughout (before_refusal ns) → AgreeThroughout (before_refusal (ms ++ ns))
@@ -259,56 +257,59 @@ agreed-moments now next ms ns whole going links done agreed all = by_halt next.h
         let halted = sym on ∙ ap (λ (w : World). w.halt) did ∙ (becomes ms now going links).halt in
         all (rw (refused-append ms ns (halted-by (refusal ms) (Outstanding why) halted)) agreed)
 
+-- ---- that what is promised of a moment is so of all
+
+-- where the rest of a settling's deliveries are right all are
+abbrev pub RightSoFar : ℕ → ℕ → World → Place → Option WorldFault → Type 0
+RightSoFar count left first now halt = SoFar halt (AllRight now.ends (before_refusal (deliveries left now))) (AllRight first.ends (before_refusal (deliveries count (place_of first))))
+
 -- so many of the deliveries of a settling are done
 pub record SettlesOn (count i : ℕ) (first now : World) : Type 0 where
   pub done : UnlessMemory now.halt (settled count first ≡ settled (count - i) now)
   pub halted : IsSome first.halt → now ≡ first
   pub steps : now.steps ≤ first.steps + i
-  pub agreed : first.halt ≡ None → SoFar now.halt (AgreeThroughout (before_refusal (deliveries (count - i) (place_of now)))) (AgreeThroughout (before_refusal (deliveries count (place_of first))))
+  pub right : first.halt ≡ None → RightSoFar count (count - i) first (place_of now) now.halt
 
 pub settles_first : (count : ℕ) (first : World) → SettlesOn count 0 first first
 settles_first count first =
     let whole : count - 0 ≡ count = omega arith in
-    record { done = unless_always first.halt (rw whole refl); halted = λ some. refl; steps = omega arith; agreed = λ going. rw (going, whole) (λ all. all) }
+    record { done = unless_always first.halt (rw whole refl); halted = λ some. refl; steps = omega arith; right = λ going. rw (going, whole) (λ all. all) }
 
-settles-agreed : (count i : ℕ) (first now next : World) → i < count → UnlessMemory next.halt (next ≡ does_step now (next_delivery now.ends)) → (IsSome now.halt → next ≡ now) →
-    (next.halt ≡ None → AgreeEverywhere next.ends) → (o : Option WorldFault) → now.halt ≡ o →
-    SoFar o (AgreeThroughout (before_refusal (deliveries (count - i) (place_of now)))) (AgreeThroughout (before_refusal (deliveries count (place_of first)))) →
-    SoFar next.halt (AgreeThroughout (before_refusal (deliveries (count - (i + 1)) (place_of next)))) (AgreeThroughout (before_refusal (deliveries count (place_of first))))
-settles-agreed count i first now next below done stays agreed None going far =
+settles-right : (count i : ℕ) (first now next : World) → i < count → UnlessMemory next.halt (next ≡ does_step now (next_delivery now.ends)) → (IsSome now.halt → next ≡ now) →
+    (now.halt ≡ None → next.halt ≡ None → IsRight now.ends (moment_at (place_of now) (next_delivery now.ends))) → (o : Option WorldFault) → now.halt ≡ o →
+    RightSoFar count (count - i) first (place_of now) o → RightSoFar count (count - (i + 1)) first (place_of next) next.halt
+settles-right count i first now next below done stays right None going far =
     let left : count - i ≡ suc (count - (i + 1)) = omega arith in
-    let whole = AgreeThroughout (before_refusal (deliveries count (place_of first))) in
+    let whole = AllRight first.ends (before_refusal (deliveries count (place_of first))) in
     let m = moment_at (place_of now) (next_delivery now.ends) in
-    at_next (agreed-moment now next m (deliveries (count - (i + 1)) (after_moment m)) whole going done agreed (rw left at far))
+    at_next (right-moment now next m (deliveries (count - (i + 1)) (after_moment m)) whole going done (right going) (rw left at far))
   where
     m' : Moment
     m' = moment_at (place_of now) (next_delivery now.ends)
 
-    at_next : SoFar next.halt (AgreeThroughout (before_refusal (deliveries (count - (i + 1)) (after_moment m')))) (AgreeThroughout (before_refusal (deliveries count (place_of first)))) →
-        SoFar next.halt (AgreeThroughout (before_refusal (deliveries (count - (i + 1)) (place_of next)))) (AgreeThroughout (before_refusal (deliveries count (place_of first))))
+    at_next : RightSoFar count (count - (i + 1)) first (after_moment m') next.halt → RightSoFar count (count - (i + 1)) first (place_of next) next.halt
     at_next far = by_halt next.halt refl done far
       where
         by_halt : (o : Option WorldFault) → next.halt ≡ o → UnlessMemory o (next ≡ does_step now (next_delivery now.ends)) →
-            SoFar o (AgreeThroughout (before_refusal (deliveries (count - (i + 1)) (after_moment m')))) (AgreeThroughout (before_refusal (deliveries count (place_of first)))) →
-            SoFar o (AgreeThroughout (before_refusal (deliveries (count - (i + 1)) (place_of next)))) (AgreeThroughout (before_refusal (deliveries count (place_of first))))
+            RightSoFar count (count - (i + 1)) first (after_moment m') o → RightSoFar count (count - (i + 1)) first (place_of next) o
         by_halt None on did far =
             let at : place_of next ≡ after_moment m' = ap place_of did ∙ place_on now m' (sym (ap (λ (w : World). w.halt) did) ∙ on) in
-            rw at far
+            subst (λ (q : Place). RightSoFar count (count - (i + 1)) first q None) (sym at) far
         by_halt (Some Memory) on did far = tt
         by_halt (Some (Outstanding why)) on did far = far
-settles-agreed count i first now next below done stays agreed (Some Memory) is far = let same : next ≡ now = stays (rw is refl) in rw (same, is) tt
-settles-agreed count i first now next below done stays agreed (Some (Outstanding why)) is far = let same : next ≡ now = stays (rw is refl) in rw (same, is) far
+settles-right count i first now next below done stays right (Some Memory) is far = let same : next ≡ now = stays (rw is refl) in rw (same, is) tt
+settles-right count i first now next below done stays right (Some (Outstanding why)) is far = let same : next ≡ now = stays (rw is refl) in rw (same, is) far
 
 pub settles_next : (count i : ℕ) (first now next : World) → i < count → UnlessMemory next.halt (next ≡ does_step now (next_delivery now.ends)) → (IsSome now.halt → next ≡ now) → next.steps ≤ now.steps + 1 →
-    (next.halt ≡ None → AgreeEverywhere next.ends) → SettlesOn count i first now → SettlesOn count (i + 1) first next
-settles_next count i first now next below done stays steps agreed far =
+    (now.halt ≡ None → next.halt ≡ None → IsRight now.ends (moment_at (place_of now) (next_delivery now.ends))) → SettlesOn count i first now → SettlesOn count (i + 1) first next
+settles_next count i first now next below done stays steps right far =
     let left : count - i ≡ suc (count - (i + 1)) = omega arith in
     record {
       done = unless_both next.halt (unless_later now.halt now next (settled count first ≡ settled (count - i) now) refl stays far.done) done
           (λ before one. before ∙ ap (λ k. settled k now) left ∙ settled_next (count - (i + 1)) now ∙ ap (settled (count - (i + 1))) (sym one));
       halted = λ some. let same : now ≡ first = far.halted some in stays (rw same some) ∙ same;
       steps = omega (arith, far.steps, steps);
-      agreed = λ going. settles-agreed count i first now next below done stays agreed now.halt refl (far.agreed going);
+      right = λ going. settles-right count i first now next below done stays right now.halt refl (far.right going);
     }
 
 pub settles_all : (count i : ℕ) (first now : World) → count ≤ i → SettlesOn count i first now → UnlessMemory now.halt (now ≡ settled count first)
@@ -316,34 +317,50 @@ settles_all count i first now all far =
     let none : count - i ≡ 0 = omega arith in
     unless_map now.halt far.done (λ same. sym (same ∙ ap (λ k. settled k now) none))
 
-pub settled-agreed : (count i : ℕ) (first now : World) → count ≤ i → SettlesOn count i first now → first.halt ≡ None →
-    UnlessMemory now.halt (AgreeThroughout (before_refusal (deliveries count (place_of first))))
-settled-agreed count i first now all far going = by_halt now.halt (far.agreed going)
-  where
-    none : count - i ≡ 0
-    none = omega arith
+-- when nothing is left all are right
+all-right : (o : Option WorldFault) (rest whole : Type 0) → rest → SoFar o rest whole → UnlessMemory o whole
+all-right None rest whole none far = far none
+all-right (Some Memory) rest whole none far = tt
+all-right (Some (Outstanding why)) rest whole none far = far
 
-    by_halt : (o : Option WorldFault) → SoFar o (AgreeThroughout (before_refusal (deliveries (count - i) (place_of now)))) (AgreeThroughout (before_refusal (deliveries count (place_of first)))) →
-        UnlessMemory o (AgreeThroughout (before_refusal (deliveries count (place_of first))))
-    by_halt None rest = rest (rw none (All-nil (λ (x : Moment). AgreeEverywhere x.after)))
-    by_halt (Some Memory) rest = tt
-    by_halt (Some (Outstanding why)) rest = rest
+pub settled-right : (count i : ℕ) (first now : World) → count ≤ i → SettlesOn count i first now → first.halt ≡ None →
+    UnlessMemory now.halt (AllRight first.ends (before_refusal (deliveries count (place_of first))))
+settled-right count i first now all far going =
+    let none : count - i ≡ 0 = omega arith in
+    all-right now.halt _ _ (rw none tt) (far.right going)
 
 -- an event that is one step
-pub one-agreed : (now next : World) (step : Step) → now.halt ≡ None → UnlessMemory next.halt (next ≡ does_step now step) → (next.halt ≡ None → AgreeEverywhere next.ends) →
-    UnlessMemory next.halt (AgreeThroughout (before_refusal (moment_at (place_of now) step ∷ [])))
-one-agreed now next step going done agreed =
+pub one-right : (now next : World) (step : Step) → now.halt ≡ None → UnlessMemory next.halt (next ≡ does_step now step) → (next.halt ≡ None → IsRight now.ends (moment_at (place_of now) step)) →
+    UnlessMemory next.halt (AllRight now.ends (before_refusal (moment_at (place_of now) step ∷ [])))
+one-right now next step going done right =
     let m = moment_at (place_of now) step in
-    by_halt next.halt (AgreeThroughout (before_refusal (m ∷ []))) (agreed-moment now next m [] (AgreeThroughout (before_refusal (m ∷ []))) going done agreed (λ all. all))
-  where
-    by_halt : (o : Option WorldFault) (whole : Type 0) → SoFar o (AgreeThroughout (before_refusal [])) whole → UnlessMemory o whole
-    by_halt None whole rest = rest (All-nil (λ (x : Moment). AgreeEverywhere x.after))
-    by_halt (Some Memory) whole rest = tt
-    by_halt (Some (Outstanding why)) whole rest = rest
+    all-right next.halt (AllRight m.after (before_refusal [])) (AllRight now.ends (before_refusal (m ∷ []))) tt (right-moment now next m [] (AllRight now.ends (before_refusal (m ∷ []))) going done right (λ all. all))
 
-pub event-agreed : (now next : World) (event : Event) (step : Step) → settling event ≡ None → step ≡ step_of (length now.ends.own.links) event → now.halt ≡ None →
-    UnlessMemory next.halt (next ≡ does_step now step) → (next.halt ≡ None → AgreeEverywhere next.ends) → UnlessMemory next.halt (AgreeThroughout (before_refusal (moments_of event (place_of now))))
-event-agreed now next event step one is going done agreed = rw (one, ← is) (one-agreed now next step going done agreed)
+pub event-right : (now next : World) (event : Event) (step : Step) → settling event ≡ None → step ≡ step_of (length now.ends.own.links) event → now.halt ≡ None →
+    UnlessMemory next.halt (next ≡ does_step now step) → (next.halt ≡ None → IsRight now.ends (moment_at (place_of now) step)) → UnlessMemory next.halt (AllRight now.ends (before_refusal (moments_of event (place_of now))))
+event-right now next event step one is going done right = rw (one, ← is) (one-right now next step going done right)
+
+-- in particular two Opened ends agree, each step is a list of the two ends' events, and a delivery lends its frame
+rights-agree : (e : Ends) (ms : List Moment) → AllRight e ms → AgreeThroughout ms
+rights-agree e [] right = All-nil (λ (x : Moment). AgreeEverywhere x.after)
+rights-agree e (m ∷ ms) right = All-cons (λ (x : Moment). AgreeEverywhere x.after) m ms right.0.agreed (rights-agree m.after ms right.1)
+
+rights-make : (e : Ends) (ms : List Moment) → AllRight e ms → MakeThroughout e ms
+rights-make e [] right = tt
+rights-make e (m ∷ ms) right = (right.0.makes, rights-make m.after ms right.1)
+
+rights-lend : (e : Ends) (ms : List Moment) → AllRight e ms → LendThroughout e ms
+rights-lend e [] right = tt
+rights-lend e (m ∷ ms) right = (right.0.lends, rights-lend m.after ms right.1)
+
+pub unless-agree : (o : Option WorldFault) (e : Ends) (ms : List Moment) → UnlessMemory o (AllRight e ms) → UnlessMemory o (AgreeThroughout ms)
+unless-agree o e ms right = unless_map o right (rights-agree e ms)
+
+pub unless-make : (o : Option WorldFault) (e : Ends) (ms : List Moment) → UnlessMemory o (AllRight e ms) → UnlessMemory o (MakeThroughout e ms)
+unless-make o e ms right = unless_map o right (rights-make e ms)
+
+pub unless-lend : (o : Option WorldFault) (e : Ends) (ms : List Moment) → UnlessMemory o (AllRight e ms) → UnlessMemory o (LendThroughout e ms)
+unless-lend o e ms right = unless_map o right (rights-lend e ms)
 
 -- the world goes on, so what it keeps holds
 pub sound-world : (ends : Ends) (steps : ℕ) (halt : Option WorldFault) (w : World) → IsSoundUnless halt ends steps → world_of ends steps w.report halt ≡ w → w.halt ≡ None → IsSound ends steps

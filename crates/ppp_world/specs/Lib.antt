@@ -1,6 +1,7 @@
 pub mod Agreement
 pub mod Decided
 pub mod Difference
+pub mod Makes
 pub mod Ordinals
 pub mod Outstanding
 pub mod Refusal

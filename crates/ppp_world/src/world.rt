@@ -6,7 +6,8 @@ ghost use Rattle.ppp_conf.specs.Config.{config_seen};
 ghost use Rattle.ppp_script.specs.Event.{steps_in};
 ghost use Rattle.ppp_script.specs.declared.script.TheConstants.{MOST_STEPS};
 ghost use Rattle.ppp_world.specs.Agreement.{agree_on, AreOpenedOn};
-ghost use Rattle.ppp_world.specs.Run.{before_refusal, deliveries, moments_of, shown_at, AgreeEverywhere, AgreeThroughout};
+ghost use Rattle.ppp_world.specs.Makes.{AllRight, IsRight, LendThroughout, MakeThroughout};
+ghost use Rattle.ppp_world.specs.Run.{before_refusal, deliveries, moment_at, moments_of, shown_at, AgreeEverywhere, AgreeThroughout};
 ghost use Rattle.ppp_world.specs.Step.{next_delivery, IsLinked};
 ghost use Rattle.ppp_world.specs.World.{answer_of, does_step, fault_in, place_of, settled, world_after, world_of, IsBegun, IsSound, UnlessMemory};
 
@@ -62,12 +63,17 @@ impl World {
 
     /// Does the steps of an event. Outstanding comes exactly where one of them would make an end's requests under way
     /// span more than 255 ordinals: those before it are done and counted. After a refusal no further step is done, and
-    /// every call gives the same refusal. After each step two Opened ends of a protocol agree, on each link.
+    /// every call gives the same refusal. After each step two Opened ends of a protocol agree, on each link, and each step is
+    /// for the two ends of a protocol a list of their own events. A delivery's link lends the frame that its octets read as.
     pub fn step(&mut self, event: &Event) -> Result<(), WorldFault>
         requires { self.old.steps + steps_in event.now ≤ MOST_STEPS }
         ensures done { UnlessMemory self.new.halt (self.new ≡ world_after self.old event.now) }
         ensures agreed { self.old.halt ≡ None → UnlessMemory self.new.halt
             (AgreeThroughout (before_refusal (moments_of event.now (place_of self.old)))) }
+        ensures makes { self.old.halt ≡ None → UnlessMemory self.new.halt
+            (MakeThroughout self.old.ends (before_refusal (moments_of event.now (place_of self.old)))) }
+        ensures lends { self.old.halt ≡ None → UnlessMemory self.new.halt
+            (LendThroughout self.old.ends (before_refusal (moments_of event.now (place_of self.old)))) }
         ensures answer { result ≡ answer_of self.new.halt }
         ensures halted { IsSome self.old.halt → self.new ≡ self.old }
         ensures steps { self.new.steps ≤ self.old.steps + steps_in event.now }
@@ -133,8 +139,8 @@ impl World {
     fn run(&mut self, event: &Event)
         requires { self.old.steps + steps_in event.now ≤ MOST_STEPS }
         ensures done { UnlessMemory self.new.halt (self.new ≡ world_after self.old event.now) }
-        ensures agreed { self.old.halt ≡ None → UnlessMemory self.new.halt
-            (AgreeThroughout (before_refusal (moments_of event.now (place_of self.old)))) }
+        ensures right { self.old.halt ≡ None → UnlessMemory self.new.halt
+            (AllRight self.old.ends (before_refusal (moments_of event.now (place_of self.old)))) }
         ensures halted { IsSome self.old.halt → self.new ≡ self.old }
         ensures steps { self.new.steps ≤ self.old.steps + steps_in event.now }
     {
@@ -151,8 +157,8 @@ impl World {
     fn settle(&mut self, count: u16)
         requires { self.old.steps + count ≤ MOST_STEPS }
         ensures done { UnlessMemory self.new.halt (self.new ≡ settled count self.old) }
-        ensures agreed { self.old.halt ≡ None → UnlessMemory self.new.halt
-            (AgreeThroughout (before_refusal (deliveries count (place_of self.old)))) }
+        ensures right { self.old.halt ≡ None → UnlessMemory self.new.halt
+            (AllRight self.old.ends (before_refusal (deliveries count (place_of self.old)))) }
         ensures halted { IsSome self.old.halt → self.new ≡ self.old }
         ensures steps { self.new.steps ≤ self.old.steps + count }
     {
@@ -165,7 +171,8 @@ impl World {
     fn deliver_next(&mut self)
         requires { self.old.steps + 1 ≤ MOST_STEPS }
         ensures done { UnlessMemory self.new.halt (self.new ≡ does_step self.old (next_delivery self.old.ends)) }
-        ensures agreed { self.new.halt ≡ None → AgreeEverywhere self.new.ends }
+        ensures right { self.old.halt ≡ None → self.new.halt ≡ None
+            → IsRight self.old.ends (moment_at (place_of self.old) (next_delivery self.old.ends)) }
         ensures halted { IsSome self.old.halt → self.new ≡ self.old }
         ensures steps { self.new.steps ≤ self.old.steps + 1 }
     {
@@ -181,7 +188,8 @@ impl World {
         requires few { self.old.steps + 1 ≤ MOST_STEPS }
         requires linked { IsLinked (length self.old.ends.own.links) step }
         ensures done { UnlessMemory self.new.halt (self.new ≡ does_step self.old step) }
-        ensures agreed { self.new.halt ≡ None → AgreeEverywhere self.new.ends }
+        ensures right { self.old.halt ≡ None → self.new.halt ≡ None
+            → IsRight self.old.ends (moment_at (place_of self.old) step) }
         ensures halted { IsSome self.old.halt → self.new ≡ self.old }
         ensures steps { self.new.steps ≤ self.old.steps + 1 }
     {
@@ -209,6 +217,7 @@ fn go(
         (world_of ends.new steps.new (string_bytes report.new) (fault_in result)
         ≡ does_step (world_of ends.old steps.old (string_bytes report.old) None) step) }
     ensures sound { OnOk result (IsSound ends.new steps.new) }
+    ensures right { OnOk result (IsRight ends.old (moment_at (record { done = steps.old; ends = ends.old }) step)) }
     ensures steps { steps.new ≤ steps.old + 1 }
 {
     let number = *steps + 1;

@@ -1,5 +1,6 @@
 use Rattle.std.proofs.Common.{◌≡◌, ◌+◌, ◌*◌, ◌∙◌, sym, arith}
 use Rattle.ppp_world.specs.World.{most_a_step}
+use Rattle.ppp_world.proofs.MakesLemmas.{right-moved}
 use Rattle.ppp_world.proofs.SoundLemmas.{after-moved, agree-sound, few-sent, sound-done}
 use Rattle.ppp_world.proofs.WorldLemmas.{done_as, refused_as}
 use Rattle.ppp_world.proofs.world.go.Goals as goal
@@ -43,3 +44,6 @@ pub returns-clause-sound : goal.returns-clause-sound
 returns-clause-sound c =
     sound-done (c.args.steps.now + 1) c.args.steps.now c.args.ends.now c.does.new.self c.args.step c.in-Ok.ensures.done c.requires.sound c.requires.linked c.does.ensures.short
     (sym c.wider_since.ensures ∙ c.in_default.is) (c.in-Ok.ensures.counted_a (most_a_step * c.args.steps.now) c.requires.sound.counted_a) (c.in-Ok.ensures.counted_b (most_a_step * c.args.steps.now) c.requires.sound.counted_b)
+
+pub returns-clause-right : goal.returns-clause-right
+returns-clause-right c = right-moved c.args.steps.now c.args.ends.now c.args.step c.requires.sound c.requires.linked c.does.ensures.short
