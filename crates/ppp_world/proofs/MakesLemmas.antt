@@ -99,14 +99,14 @@ module _ (e : Ends) (steps : ℕ) (sound : IsSound e steps) (l : ℕ) (is : IsOf
       let k = some_at e.own.links (l - 1) (omega (arith, is.0, is.1)) in
       made-stands m p e _ above (sound.held m p above below)
       (λ on. happens-made on.own_setup on.other_setup p (happening_seen what) l m word e k.0 on.kept is.0 above (narrow-duet on.own_setup on.other_setup p m e on.kept (sound.narrow m p above below)) k.1
-          (no_frame what) (short-done (happening_seen what) l word e.own.links k.0 k.1 short))
+      (no_frame what) (short-done (happening_seen what) l word e.own.links k.0 k.1 short))
 
   delivers-makes : (word : ℕ) → AreShort (taken_entries l e.own.links word (slice_get e.own.incoming (l - 1))) → RelatesOn Makes m p e (delivers l word e)
   delivers-makes word short =
       let k = some_at e.own.links (l - 1) (omega (arith, is.0, is.1)) in
       made-stands m p e _ above (sound.held m p above below)
       (λ on. delivers-made on.own_setup on.other_setup p l m word e k.0 on.kept is.0 above (narrow-duet on.own_setup on.other_setup p m e on.kept (sound.narrow m p above below)) k.1
-          (λ f rest front. short-done (Takes f.octets) l word e.own.links k.0 k.1 (taken-short l word e.own short f rest front)))
+      (λ f rest front. short-done (Takes f.octets) l word e.own.links k.0 k.1 (taken-short l word e.own short f rest front)))
 
   loses-makes : (place : ℕ) → RelatesOn Makes m p e (loses l place e)
   loses-makes place =
