@@ -13,12 +13,11 @@ use Rattle.ppp_party.specs.Frame.{Frame}
 use Rattle.ppp_party.specs.Happening.{happening_seen}
 use Rattle.ppp_party.specs.Held.{IsHeld, KeptOn}
 use Rattle.ppp_party.specs.Kept.{Kept, duet_of}
-use Rattle.ppp_party.specs.Ledger.{first_id}
 use Rattle.ppp_party.specs.Party.{Ends, delivers, happens, loses, reboots, turned}
+use Rattle.ppp_party.specs.Seat.{IsSpoken, rebooted}
 use Rattle.ppp_party.specs.Spans.{queue_if, queue_on}
-use Rattle.ppp_party.specs.Seat.{IsSpoken, Seat, SeatAt, rebooted}
 use Rattle.ppp_party.specs.declared.happening.Happening.{Happening}
-use Rattle.ppp_party.proofs.KeptLemmas.{LedFrom, MadeFrom, delivers-made, happens-made, loses-made, reboots-led}
+use Rattle.ppp_party.proofs.KeptLemmas.{MadeFrom, delivers-made, happens-made, loses-made, reboots-led}
 use Rattle.ppp_party.proofs.RebootLemmas.{turned-leads, turned-makes}
 use Rattle.ppp_party.proofs.SeatLemmas.{delivers-link, done-read}
 use Rattle.ppp_party.proofs.SpansLemmas.{narrow-duet}
@@ -27,7 +26,7 @@ use Rattle.ppp_station.specs.Station.{IsOfLink, on_link}
 use Rattle.ppp_station.specs.StationOut.{AreShort}
 use Rattle.ppp_station.specs.Steps.{Takes, link_done}
 use Rattle.ppp_world.specs.Agreement.{auto_on, duet_on, duet_with, end_on, link_on}
-use Rattle.ppp_world.specs.Makes.{IsRight, LeadsIn, LendsIn, MakesOn, RelatesOn, StandsOn, lent_on, read_on, setup_on}
+use Rattle.ppp_world.specs.Makes.{IsRight, LeadsIn, LendsIn, MakesOn, RelatesOn, lent_on, read_on, setup_on}
 use Rattle.ppp_world.specs.Run.{moment_at}
 use Rattle.ppp_world.specs.Step.{IsLinked, IsShort, moved, taken_entries, word_of}
 use Rattle.ppp_world.specs.World.{IsSound}

@@ -1,6 +1,6 @@
 -- What a world keeps, each step keeps that isn't refused; and where a step can make a span too wide.
 use Rattle.std.proofs.Common.{inl, inr, ◌≡◌, ℕ, zero, suc, ◌+◌, ◌-◌, ◌*◌, ◌^◌, ◌≤◌, ◌<◌, List, [], ◌∷◌, length, refl, sym, ap, ◌∙◌, subst, arith}
-use Rattle.std.specs.Prelude.{◌≢◌, Option, Some, None, map, slice_get}
+use Rattle.std.specs.Prelude.{◌≢◌, Some, None, map, slice_get}
 use Rattle.std.specs.List.{AllByRecursion}
 use Rattle.std.proofs.lemmas.List.{length-map}
 use Rattle.ppp_conf.specs.Config.{Settings as Config}
@@ -26,7 +26,7 @@ use Rattle.ppp_script.specs.declared.end.End.TheVariants.{A, B}
 use Rattle.ppp_station.specs.Station.{BeginsBy, IsOfLink, IsReady, all_settings, on_link}
 use Rattle.ppp_station.specs.StationOut.{AreShort}
 use Rattle.ppp_station.specs.Steps.{Happening as Does, Takes, link_done}
-use Rattle.ppp_world.specs.Ordinals.{AreOrdinals, AreOrdinalsFor, MayWiden, NoneRose, WidensOn, ordinal_of}
+use Rattle.ppp_world.specs.Ordinals.{AreOrdinals, AreOrdinalsFor, MayWiden, NoneRose, WidensOn}
 use Rattle.ppp_world.specs.Outstanding.{outstanding_in}
 use Rattle.ppp_world.specs.Step.{IsLinked, IsShort, moved, party_at, taken_entries, word_of}
 use Rattle.ppp_world.specs.Run.{AgreeEverywhere}

@@ -6,7 +6,7 @@ use Rattle.std.proofs.lemmas.List.{append-nil}
 use Rattle.std.proofs.lemmas.List.Elements.{All-nil, All-cons, All-head, All-tail}
 use Rattle.ppp_party.specs.Party.{Ends}
 use Rattle.ppp_script.specs.declared.event.Event.{Event}
-use Rattle.ppp_world.specs.Makes.{AllRight, IsRight, LendThroughout, MakeThroughout, Throughout}
+use Rattle.ppp_world.specs.Makes.{AllRight, IsRight, LendThroughout, MakeThroughout}
 use Rattle.ppp_world.specs.Outstanding.{outstanding_in}
 use Rattle.ppp_world.specs.Run.{Moment, Place, moment_at, after_moment, deliveries, moments_of, place_after, run_from, shown, shown_at, report, refusal, refusal_with, before_refusal, kept_with, AgreeEverywhere, AgreeThroughout}
 use Rattle.ppp_world.specs.Step.{moved, next_delivery, settling, step_of}

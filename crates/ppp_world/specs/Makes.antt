@@ -57,7 +57,8 @@ pub record StandsOn (m : ℕ) (p : Proto) (e : Ends) (IsSo : Duet → Type 0) : 
 -- where both ends have a protocol on a link they have it still, and their states before and after are related so
 abbrev pub RelatesOn : (Setup → Setup → Duet → Duet → Type 0) → ℕ → Proto → Ends → Ends → Type 0
 RelatesOn Is m p before after =
-    (d : Duet) → duet_on m p before ≡ Some d → StandsOn m p after (Is (setup_on m p before.own.links) (setup_on m p before.other.links) d)
+    (d : Duet) → duet_on m p before ≡ Some d
+    → StandsOn m p after (Is (setup_on m p before.own.links) (setup_on m p before.other.links) d)
 
 abbrev pub MakesOn : ℕ → Proto → ℕ → Step → Ends → Ends → Type 0
 MakesOn m p k step before after = RelatesOn (LeadsIn k step) m p before after

@@ -1,4 +1,4 @@
-use Rattle.std.proofs.Common.{◌≡◌, ◌+◌, ◌*◌, ◌∙◌, sym, arith}
+use Rattle.std.proofs.Common.{◌+◌, ◌*◌, ◌∙◌, sym}
 use Rattle.ppp_world.specs.World.{most_a_step}
 use Rattle.ppp_world.proofs.MakesLemmas.{right-moved}
 use Rattle.ppp_world.proofs.SoundLemmas.{after-moved, agree-sound, few-sent, sound-done}

@@ -1,5 +1,5 @@
 use Rattle.std.proofs.Common.{arith}
-use Rattle.ppp_world.proofs.WorldLemmas.{settled-right, settles_first, settles_next}
+use Rattle.ppp_world.proofs.WorldLemmas.{settles_first, settles_next}
 use Rattle.ppp_world.proofs.world.World.settle.Goals as goal
 
 pub loop-i-init : goal.loop-i-init
