@@ -4,7 +4,6 @@ use Rattle.ppp_link.specs.Link.{Link}
 use Rattle.ppp_party.specs.Frame.{Frame}
 use Rattle.ppp_party.specs.Happening.{happening_seen}
 use Rattle.ppp_party.specs.Party.{Ends, Party, delivers, first_busy, happens, loses, reboots, turned}
-use Rattle.ppp_party.specs.declared.happening.Happening.{Happening}
 use Rattle.ppp_party.specs.declared.happening.Happening.TheVariants as what
 use Rattle.ppp_script.specs.declared.end.End.{End}
 use Rattle.ppp_script.specs.declared.end.End.TheVariants.{A, B}

@@ -1,5 +1,4 @@
 use Rattle.std.proofs.Common.{◌≡◌, suc, [], ◌∷◌, drop, ◌∙◌, sym, arith, add-one}
-use Rattle.std.specs.Prelude.{None}
 use Rattle.ppp_conf.specs.Config.{config_seen}
 use Rattle.ppp_party.proofs.ListLemmas.{drop-get}
 use Rattle.std.proofs.Math.ListN.{drop_of_length-le}

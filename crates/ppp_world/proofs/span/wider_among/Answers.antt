@@ -1,4 +1,4 @@
-use Rattle.std.proofs.Common.{◌≡◌, ◌∙◌, ap, length, sym, arith}
+use Rattle.std.proofs.Common.{◌∙◌, ap, length, sym, arith}
 use Rattle.ppp_world.proofs.WidthLemmas.{found-link, next-link}
 use Rattle.ppp_world.proofs.span.wider_among.Goals as goal
 

@@ -1,4 +1,4 @@
-use Rattle.std.proofs.Common.{◌≡◌, ℕ, ◌+◌, ◌≤◌, arith}
+use Rattle.std.proofs.Common.{◌≡◌, arith}
 use Rattle.ppp_script.specs.declared.end.End.TheVariants.{A, B}
 use Rattle.ppp_world.proofs.CountedLemmas.{anew-counted, taken-are-short, own-counted, still-counted, happens-still, delivers-still, loses-still}
 use Rattle.ppp_world.proofs.two_ends.TwoEnds.does.Goals as goal
