@@ -7,8 +7,6 @@ use Rattle.ppp_frame.specs.Deframer.{DeframerState, feed_step}
 use Rattle.ppp_frame.specs.Header.{Read}
 use Rattle.ppp_link.specs.Automata.{Automata, auto_at}
 use Rattle.ppp_link.specs.Link.{Link, fed_with, read_by}
-use Rattle.ppp_link.specs.LinkOut.{Entry as LinkTold}
-use Rattle.ppp_link.specs.LinkOut as told
 use Rattle.ppp_link.specs.LinkTables.{LinkTables}
 use Rattle.ppp_link.specs.Steps.{Event, Packet as GivenPacket, after, is_payload, rejected_in, there, told_by}
 use Rattle.ppp_packet.specs.Proto.{proto_number, proto_of}
@@ -18,8 +16,7 @@ use Rattle.ppp_auto.specs.declared.auto_event.AutoEvent.{AutoEvent}
 use Rattle.ppp_auto.specs.declared.auto_event.AutoEvent.TheVariants.{RejectedWell, RejectedBadly}
 use Rattle.ppp_station.specs.Orders.{Order, Commands, caps_after, is_same, of_frame, of_frame_for, of_given, of_other, of_packet, of_read, of_rejected, of_rejected_there, rejects_as}
 use Rattle.ppp_station.specs.Station.{on_link}
-use Rattle.ppp_station.specs.StationOut.{Got}
-use Rattle.ppp_station.specs.Steps.{Done, Takes, and_tells, is_opened_at, link_does, link_done, opener_of, runs, works, works_one}
+use Rattle.ppp_station.specs.Steps.{Takes, link_done}
 use Rattle.ppp_station.proofs.OrdersLemmas.{same-proto}
 use Rattle.ppp_station.proofs.StationLemmas.{own-link}
 use Rattle.ppp_party.specs.Frame.{Carried, Frame, carried_as, carried_by}
@@ -28,6 +25,7 @@ use Rattle.ppp_party.specs.Ledger.{Ledger, Ledgers, heard, ledger_at, ledgers_by
 use Rattle.ppp_party.specs.Party.{heard_by, heard_on, heard_packet}
 use Rattle.ppp_party.specs.declared.states.States.{States}
 use Rattle.ppp_party.proofs.PostLemmas.{number-some}
+use Rattle.ppp_party.proofs.SeatLemmas.{done-deframer}
 use Rattle.ppp_party.proofs.SendLemmas.{of-ledgers}
 
 -- ---- orders that bring nothing
@@ -162,28 +160,9 @@ heard-lent k f word gs =
 
 -- ---- what a link lends after its station's step
 
-hands-deframer : (number : ℕ) (octets : List ℕ) (done : Done) (b : Bool) → (if b then and_tells done (Got None number octets) else done).link.deframer ≡ done.link.deframer
-hands-deframer number octets done true = refl
-hands-deframer number octets done false = refl
-
-one-deframer : (l word : ℕ) (e : LinkTold) (done : Done) → (works_one l word e done).link.deframer ≡ done.link.deframer
-unfolding works_one runs
-one-deframer l word (told.Push octets) done = refl
-one-deframer l word told.LcpUp done = refl
-one-deframer l word told.LcpDown done = refl
-one-deframer l word told.Finished done = refl
-one-deframer l word (told.NetUp q) done = refl
-one-deframer l word (told.NetDown q) done = refl
-one-deframer l word (told.Payload number octets) done = hands-deframer number octets done (is_opened_at done.link (opener_of number))
-
-works-deframer : (l word : ℕ) (es : List LinkTold) (done : Done) → (works l word es done).link.deframer ≡ done.link.deframer
-unfolding works
-works-deframer l word [] done = refl
-works-deframer l word (e ∷ es) done = works-deframer l word es (works_one l word e done) ∙ one-deframer l word e done
-
 done-lends : (octets : List ℕ) (l word : ℕ) (k : Link) → (link_done (Takes octets) l k word).link.deframer ≡ (feed_step (read_by k.automata.lcp k.deframer) octets).left
 unfolding fed_with
-done-lends octets l word k = let fed = link_does (Takes octets) k word in works-deframer l word fed.out (record { link = fed.link; out = [] })
+done-lends octets l word k = done-deframer (Takes octets) l word k
 
 same-link : (o : Option Link) (j k : Link) → o ≡ Some j → o ≡ Some k → j ≡ k
 same-link o j k one other = let both : Some j ≡ Some k = sym one ∙ other in cc

@@ -1,5 +1,5 @@
 -- What happens on one link of an end, among all its links; and what stays so on the link.
-use Rattle.std.proofs.Common.{◌≡◌, ◌≢◌, ℕ, zero, suc, ◌+◌, ◌-◌, ◌≤◌, Bool, true, false, if◌then◌else◌, List, [], ◌∷◌, ◌++◌, length, take, refl, sym, ap, subst, ◌∙◌, inl, inr, append-nil, take_all, arith, length-take}
+use Rattle.std.proofs.Common.{◌≡◌, ◌≢◌, ℕ, zero, suc, ◌+◌, ◌-◌, ◌≤◌, Bool, true, false, if◌then◌else◌, List, [], ◌∷◌, ◌++◌, length, take, refl, sym, ap, subst, ◌∙◌, inl, inr, arith, length-take}
 use Rattle.std.specs.Prelude.{◌⊎◌, ◌==◌, Option, Some, None, option_map, slice_get}
 use Rattle.std.specs.List.{AllByRecursion}
 use Rattle.std.proofs.lemmas.Bool.{eqb-true, eqb-false}
@@ -26,7 +26,8 @@ use Rattle.ppp_party.specs.Seat.{AreSent, Came, IsEnd, IsNoFrame, IsSent, IsSett
 use Rattle.ppp_party.proofs.OrderLemmas.{AllByRecursion-append}
 use Rattle.ppp_party.proofs.PostLemmas.{noted-at, queued-at}
 use Rattle.ppp_party.proofs.ReadLemmas.{stands-again}
-use Rattle.ppp_party.proofs.SentLemmas.{done-framed, none-elsewhere, pushes-sent}
+use Rattle.ppp_party.proofs.SendLemmas.{elsewhere-by, none-queued}
+use Rattle.ppp_party.proofs.SentLemmas.{done-framed, pushes-sent}
 use Rattle.ppp_party.proofs.StepLemmas.{SeatMakes, happens-makes, loses-makes, taking-makes}
 
 -- ---- the deframer
@@ -50,7 +51,7 @@ unfolding works
 works-deframer l word [] done = refl
 works-deframer l word (e ∷ es) done = works-deframer l word es (works_one l word e done) ∙ one-deframer l word e done
 
-done-deframer : (what : Happening) (l word : ℕ) (k : Link) → (link_done what l k word).link.deframer ≡ (link_does what k word).link.deframer
+pub done-deframer : (what : Happening) (l word : ℕ) (k : Link) → (link_done what l k word).link.deframer ≡ (link_does what k word).link.deframer
 done-deframer what l word k = let fed = link_does what k word in works-deframer l word fed.out (record { link = fed.link; out = [] })
 
 -- it lends the frame that the octets that came read as
@@ -186,14 +187,6 @@ posted-own what l word mark e s low at =
       outgoing = queued-at 1 mark es e.own.ledgers e.other.incoming (l - 1) s.ledgers s.outgoing at.ledgers at.outgoing
           ∙ (λ i. Some (queued s.outgoing (marked_frames s.ledgers mark (pushes_on (one i) (is i)))));
     }
-
-none-queued : (queue : List Frame) → length queue ≤ room → queued queue [] ≡ queue
-none-queued queue few = ap (take room) (append-nil queue) ∙ take_all room queue few
-
--- nothing goes out on another link
-elsewhere-by : (what : Happening) (l m word : ℕ) (links : List Link) (o : Option Link) → m ≢ l → pushes_on m (stepped_by what l links word o).out.entries ≡ []
-elsewhere-by what l m word links None other = refl
-elsewhere-by what l m word links (Some k) other = none-elsewhere l m (link_done what l k word).out other (done-framed what l word k)
 
 pub posted-others : (what : Happening) (l m word mark : ℕ) (e : Ends) (s : Seat) → 1 ≤ m → m ≢ l → length s.outgoing ≤ room → SeatAt m e s →
     SeatAt m (posted mark (on_link what l e.own.links word) e) s

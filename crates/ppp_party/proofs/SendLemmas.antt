@@ -144,7 +144,7 @@ counted-pushes most few l gs es less all p =
 -- ---- on which link
 
 -- nothing goes out on another link
-elsewhere-by : (what : Happening) (l m word : ℕ) (links : List Link) (o : Option Link) → m ≢ l → pushes_on m (stepped_by what l links word o).out.entries ≡ []
+pub elsewhere-by : (what : Happening) (l m word : ℕ) (links : List Link) (o : Option Link) → m ≢ l → pushes_on m (stepped_by what l links word o).out.entries ≡ []
 elsewhere-by what l m word links None other = refl
 elsewhere-by what l m word links (Some k) other = none-elsewhere l m (link_done what l k word).out other (done-framed what l word k)
 
