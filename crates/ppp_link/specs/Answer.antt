@@ -16,7 +16,7 @@ use Rattle.ppp_link.specs.declared.link.TheConstants.{MOST_FRAME}
 
 -- how frames are read: short headers as LCP grants them
 abbrev pub reader_of : Auto → Reader
-reader_of lcp = record { limit = MOST_FRAME; ac = reads_ac lcp; pf = reads_pf lcp }
+reader_of lcp = record { limit = 8200; ac = reads_ac lcp; pf = reads_pf lcp }
 
 -- one piece is discarded, or the frame that it is is taken
 abbrev pub takes_piece : LinkTables → List ℕ → ℕ → Automata → Did

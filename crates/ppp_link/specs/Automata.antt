@@ -13,7 +13,6 @@ use Rattle.ppp_lcp.specs.declared.lcp_table.TheConstants.{DEFAULT_MRU, DEFAULT_A
 use Rattle.ppp_auto.specs.OptionTable.{Table}
 use Rattle.ppp_link.specs.LinkTables.{LinkTables, lcp_table, ip_table, ipv6_table, osi_table, mpls_table, bacp_table}
 use Rattle.ppp_auto.specs.declared.auto.TheConstants.{MOST_CAP}
-use Rattle.ppp_link.specs.declared.automata.TheConstants.{FIRST_ID}
 
 pub record Automata : Type 0 where
   pub lcp : Auto
@@ -71,19 +70,23 @@ all_changed k f = record {
 abbrev pub with_cap : ℕ → Auto → Auto
 with_cap cap a = record a { cap = cap }
 
+-- the first Identifier
+abbrev pub first_id : ℕ
+first_id = 1
+
 -- as they begin
 abbrev pub begun_if : {T : Type 0} → (T → Table) → Option T → Option Auto
-begun_if table tables = option_map (λ t. begun (table t) FIRST_ID) tables
+begun_if table tables = option_map (λ t. begun (table t) first_id) tables
 
 abbrev pub automata_begun : LinkTables → Automata
 automata_begun t = record {
-  lcp = begun (lcp_table t.lcp) FIRST_ID;
+  lcp = begun (lcp_table t.lcp) first_id;
   ip = begun_if ip_table t.ip;
   ipv6 = begun_if ipv6_table t.ipv6;
   osi = begun_if osi_table t.osi;
   mpls = begun_if mpls_table t.mpls;
   bacp = begun_if bacp_table t.bacp;
-  reject_id = FIRST_ID;
+  reject_id = first_id;
 }
 
 -- ---- what LCP grants

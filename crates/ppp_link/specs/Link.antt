@@ -12,7 +12,6 @@ use Rattle.ppp_link.specs.Automata.{Automata, automata_begun, reads_ac, reads_pf
 use Rattle.ppp_link.specs.LinkOut.{Entry}
 use Rattle.ppp_link.specs.LinkTables.{LinkTables}
 use Rattle.ppp_link.specs.Steps.{Did, Event, begins, does, each_does, hears_read, run_by, runs}
-use Rattle.ppp_link.specs.declared.link.TheConstants.{MOST_FRAME}
 
 pub record Link : Type 0 where
   pub tables : LinkTables
@@ -27,7 +26,7 @@ cleared d = record { reader = d.reader; standing = fresh; frame = None }
 
 -- as it begins
 abbrev pub deframer_begun : DeframerState
-deframer_begun = record { reader = whole_headers MOST_FRAME; standing = fresh; frame = None }
+deframer_begun = record { reader = whole_headers 8200; standing = fresh; frame = None }
 
 -- reads short headers as LCP grants them
 abbrev pub read_by : Auto → DeframerState → DeframerState

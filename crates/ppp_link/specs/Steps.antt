@@ -22,7 +22,6 @@ use Rattle.ppp_link.specs.Automata.{Automata, auto_at, all_changed, cap_of, chan
 use Rattle.ppp_link.specs.LinkOut.{Entry, Push, LcpUp, LcpDown, Finished, NetUp, NetDown, Payload}
 use Rattle.ppp_link.specs.LinkTables.{LinkTables, table_of}
 use Rattle.ppp_link.specs.Proto.{control_of, nets}
-use Rattle.ppp_link.specs.declared.steps.TheConstants.{MULTILINK, REJECT_HEADER}
 use Rattle.ppp_link.specs.declared.given.Given.{Given as Kept}
 use Rattle.ppp_link.specs.declared.given.Given.TheVariants as kept
 
@@ -155,7 +154,7 @@ takes t p octets word did =
 -- room for (RFC 1661 section 5.7).
 abbrev pub reject_packet : ℕ → ℕ → ℕ → List ℕ → List ℕ
 reject_packet id cap number info =
-    packet_octets (code_number ProtocolReject) id (two_octets number ++ take (cap - REJECT_HEADER) info)
+    packet_octets (code_number ProtocolReject) id (two_octets number ++ take (cap - 6) info)
 
 unfoldable pub rejects : ℕ → List ℕ → Did → Did
 rejects number info did = record {
@@ -168,7 +167,7 @@ rejects number info did = record {
 -- whether what a frame of that protocol carries is handed up: data of a configured control protocol, or fragments where
 -- this end does multilink
 abbrev pub is_payload : LinkTables → Automata → ℕ → Bool
-is_payload t k number = is_some (there k (control_of number)) || ((number == MULTILINK) && not (t.lcp.mrru == 0))
+is_payload t k number = is_some (there k (control_of number)) || ((number == 0x003d) && not (t.lcp.mrru == 0))
 
 unfoldable pub hears_other : LinkTables → ℕ → List ℕ → Did → Did
 hears_other t number info did =
