@@ -1,6 +1,7 @@
 //! The automaton over LCP's table, by packets that were worked out by hand from RFC 1661.
 
-use ppp_auto::{AutoEvent, AutoState, Automaton, EntryRef, LayerSignal, Outbox};
+use crate::entries::{Entry, has_exactly, sends_exactly};
+use ppp_auto::{AutoEvent, AutoState, Automaton, LayerSignal, Outbox};
 use ppp_lcp::{DEFAULT_ACCM, DEFAULT_MRU, LcpTable};
 use ppp_packet::Disc;
 use std::test::Fail;
@@ -12,19 +13,12 @@ enum Step {
     Packet(&'static [u8]),
 }
 
-/// What an outbox is to hold: a packet to send, or a signal to the layers beside.
-#[derive(Clone, Copy)]
-enum Entry {
-    Packet(&'static [u8]),
-    Signal(LayerSignal),
-}
-
 /// A step of an end after other steps: the entries that it leads to, and the state then.
 #[derive(Clone, Copy)]
 struct Case {
     before: &'static [Step],
     step: Step,
-    entries: &'static [Entry],
+    entries: &'static [Entry<'static>],
     state: AutoState,
 }
 
@@ -41,7 +35,7 @@ const CLOSE: Step = Step::Event(AutoEvent::AdminClose);
 const UP: Step = Step::Event(AutoEvent::Up);
 
 /// What the layer above is told where the protocol leaves Opened.
-const DOWN: Entry = Entry::Signal(LayerSignal::Down);
+const DOWN: Entry<'static> = Entry::Signal(LayerSignal::Down);
 
 /// A Configure-Request without options, and the Configure-Ack that answers it.
 const PLAIN: &[u8] = &[1, 1, 0, 4];
@@ -94,30 +88,6 @@ fn end_after(steps: &[Step], out: &mut Outbox) -> Automaton<LcpTable> {
         take(&mut automaton, *step, OWN, out);
     }
     automaton
-}
-
-/// Whether an entry is this one.
-fn is_entry(entry: EntryRef<'_>, wanted: Entry) -> bool {
-    match (entry, wanted) {
-        (EntryRef::Send(octets), Entry::Packet(packet)) => octets == packet,
-        (EntryRef::Signal(told), Entry::Signal(signal)) => told == signal,
-        _ => false,
-    }
-}
-
-/// Whether an outbox has exactly these entries.
-fn has_exactly(out: &Outbox, entries: &[Entry]) -> bool {
-    for i in 0..out.count() {
-        if i >= entries.len() || !is_entry(out.at(i), entries[i]) {
-            return false;
-        }
-    }
-    out.count() == entries.len()
-}
-
-/// Whether an outbox has exactly this packet, and no signal.
-fn sends_exactly(out: &Outbox, packet: &[u8]) -> bool {
-    out.count() == 1 && matches!(out.at(0), EntryRef::Send(octets) if octets == packet)
 }
 
 // A Configure-Request in Req-Sent, what answers it, and the state then.

@@ -3,21 +3,20 @@ use Rattle.std.proofs.Common.{◌≡◌, Bool, true, false, List, ℕ, sym, ap, 
 use Rattle.std.specs.Prelude.{Option, Some, None, Ok, length, nat_lt}
 use Rattle.ppp_cli.specs.Agreement.{AgreesIfReplayed, AgreesInReplay}
 use Rattle.ppp_cli.specs.Answer.{Answers, AnswersBy, Replies}
-use Rattle.ppp_cli.specs.Reply.{Reply, IsReplyIfBuilt, IsReplyIfSet, IsReplyIfShort, IsReplyToRead, IsReplyToRun, IsReplyToText}
+use Rattle.ppp_cli.specs.Reply.{Reply, IsReplyIfSet, IsReplyIfShort, IsReplyToRead, IsReplyToRun, IsReplyToText}
 use Rattle.ppp_cli.specs.Status.{IsOfRun}
 use Rattle.ppp_cli.specs.declared.command.Command.{Command}
 use Rattle.ppp_cli.specs.declared.command.Command.TheVariants.{Replay, Feed, Show}
 use Rattle.ppp_cli.specs.declared.input.TheConstants.{MOST_OCTETS}
 use Rattle.ppp_cli.specs.declared.status.Status.{Status}
-use Rattle.ppp_cli.specs.declared.status.Status.TheVariants.{Ok as Fine, BadWords, ReadFault, TooLong, BadConfig, BadLine, Outstanding, WriteFault, Memory, NotBuilt}
+use Rattle.ppp_cli.specs.declared.status.Status.TheVariants.{Ok as Fine, BadWords, ReadFault, TooLong, BadConfig, BadLine, Outstanding, WriteFault, Memory}
 use Rattle.ppp_conf.specs.Config.{Settings as Config, config_of}
 use Rattle.ppp_conf.specs.EndConfig.{EndSettings}
-use Rattle.ppp_link.specs.Link.{Link}
 use Rattle.ppp_script.specs.Event.{event_form}
 use Rattle.ppp_script.specs.Script.{events_of}
 use Rattle.ppp_script.specs.declared.event.Event.{Event}
-use Rattle.ppp_station.proofs.OneStationLemmas.{same_links}
-use Rattle.ppp_station.specs.Station.{BeginsBy}
+use Rattle.ppp_station.proofs.OneStationLemmas.{same_stations}
+use Rattle.ppp_station.specs.Station.{BeginsBy, Station}
 use Rattle.ppp_text.specs.Parts.{settings_in, script_in}
 use Rattle.ppp_world.specs.Run.{AgreesInRun}
 use Rattle.ppp_world.specs.World.{BothBegin}
@@ -25,10 +24,10 @@ use Rattle.ppp_world.specs.World.{BothBegin}
 -- ---- a run that was reported
 
 -- settings decide the stations that begin by them, and so their run
-same_begin : (s : EndSettings) (one two : List Link) → BeginsBy s one → BeginsBy s two → one ≡ two
-same_begin s one two first second = same_links one two first.ready second.ready (first.settings ∙ sym second.settings)
+same_begin : (s : EndSettings) (one two : Station) → BeginsBy s one → BeginsBy s two → one ≡ two
+same_begin s one two first second = same_stations one two first.begun second.begun (first.settings ∙ sym second.settings)
 
-agrees_in_run : (c : Config) (events : List Event) (reply : Reply) → IsReplyToRun c events reply → (own other : List Link) → BothBegin c own other → AgreesInRun own other events
+agrees_in_run : (c : Config) (events : List Event) (reply : Reply) → IsReplyToRun c events reply → (own other : Station) → BothBegin c own other → AgreesInRun own other events
 agrees_in_run c events reply is own other begin =
     let did = is.replay in
     subst (λ a. AgreesInRun a other events) (same_begin c.a did.own own did.begin.a begin.a)
@@ -36,16 +35,11 @@ agrees_in_run c events reply is own other begin =
 
 -- ---- a reply whose status is that of a run is one to the run of what was read
 
-of_built : (plain : Bool) (c : Config) (lines : List ℕ) (events : List Event) (reply : Reply) → events_of event_form c.links lines ≡ Ok events → IsOfRun reply.status →
-    IsReplyIfBuilt event_form IsReplyToRun plain c lines reply → IsReplyToRun c events reply
-of_built true c lines events reply read run is = subst (λ r. IsReplyToRead event_form IsReplyToRun c r reply) read is
-of_built false c lines events reply read run is = absurd (subst IsOfRun (ap (λ (r : Reply). r.status) is) run)
-
 of_short : (long : Bool) (text : List ℕ) (c : Config) (events : List Event) (reply : Reply) → config_of (settings_in text) ≡ Ok c → events_of event_form c.links (script_in text) ≡ Ok events →
     IsOfRun reply.status → IsReplyIfShort long Replay text reply → IsReplyToRun c events reply
 of_short true text c events reply set read run is = absurd (subst IsOfRun (ap (λ (r : Reply). r.status) is) run)
 of_short false text c events reply set read run is =
-    of_built _ c (script_in text) events reply read run (subst (λ s. IsReplyIfSet event_form IsReplyToRun s (script_in text) reply) set is)
+    subst (λ r. IsReplyToRead event_form IsReplyToRun c r reply) read (subst (λ s. IsReplyIfSet event_form IsReplyToRun s (script_in text) reply) set is)
 
 agrees_in_replay : (text : List ℕ) (old new : Option (List ℕ)) (status : Status) → IsOfRun status → Replies (IsReplyToText Replay text) old new status → AgreesInReplay text
 agrees_in_replay text old new status run (reply, is, status_is, puts) c events own other set read begin =
@@ -63,7 +57,6 @@ replied ReadFailed IsReply old new (BadLine line) run answers = absurd run
 replied ReadFailed IsReply old new (Outstanding step) run answers = answers
 replied ReadFailed IsReply old new WriteFault run answers = absurd run
 replied ReadFailed IsReply old new Memory run answers = absurd run
-replied ReadFailed IsReply old new NotBuilt run answers = absurd run
 
 pub agrees_if_replayed : (ReadFailed : Type 0) (command : Option Command) (told old new : Option (List ℕ)) (status : Status) → Answers ReadFailed command told old new status → IsOfRun status → AgreesIfReplayed command told
 agrees_if_replayed ReadFailed None told old new status answers run = tt

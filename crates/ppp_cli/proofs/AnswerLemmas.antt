@@ -11,7 +11,7 @@ use Rattle.ppp_cli.specs.Status.{IsOfText}
 use Rattle.ppp_cli.specs.declared.command.Command.{Command}
 use Rattle.ppp_cli.specs.declared.input.TheConstants.{MOST_OCTETS}
 use Rattle.ppp_cli.specs.declared.status.Status.{Status}
-use Rattle.ppp_cli.specs.declared.status.Status.TheVariants.{Ok as Fine, BadWords, ReadFault, TooLong, BadConfig, BadLine, Outstanding, WriteFault, Memory, NotBuilt}
+use Rattle.ppp_cli.specs.declared.status.Status.TheVariants.{Ok as Fine, BadWords, ReadFault, TooLong, BadConfig, BadLine, Outstanding, WriteFault, Memory}
 
 -- ---- want of memory, before anything is written, answers whatever is replied
 
@@ -37,7 +37,6 @@ IsReplied (BadLine line) = ⊤
 IsReplied (Outstanding step) = ⊤
 IsReplied WriteFault = ⊥
 IsReplied Memory = ⊥
-IsReplied NotBuilt = ⊤
 
 of_text : (status : Status) → IsOfText status → IsReplied status
 of_text Fine is = tt
@@ -49,7 +48,6 @@ of_text (BadLine line) is = tt
 of_text (Outstanding step) is = tt
 of_text WriteFault is = is
 of_text Memory is = is
-of_text NotBuilt is = tt
 
 by_status : (ReadFailed : Type 0) (IsReply : Reply → Type 0) (old new : Option (List ℕ)) (status : Status) → IsReplied status → Replies IsReply old new status → AnswersBy ReadFailed IsReply old new status
 by_status ReadFailed IsReply old new Fine is replies = replies
@@ -61,7 +59,6 @@ by_status ReadFailed IsReply old new (BadLine line) is replies = replies
 by_status ReadFailed IsReply old new (Outstanding step) is replies = replies
 by_status ReadFailed IsReply old new WriteFault is replies = absurd is
 by_status ReadFailed IsReply old new Memory is replies = absurd is
-by_status ReadFailed IsReply old new NotBuilt is replies = replies
 
 finished : (ReadFailed : Type 0) (IsReply : Reply → Type 0) (reply : Reply) (old new : Option (List ℕ)) (before now : ℕ) (result : Status) → IsReply reply → IsReplied reply.status →
     Finishes old new before now reply.status reply.octets result → AnswersBy ReadFailed IsReply old new result

@@ -1,7 +1,7 @@
 -- What is replied to an input of settings and lines, part by part.
-use Rattle.std.proofs.Common.{◌≡◌, true, ℕ, List, sym, subst}
+use Rattle.std.proofs.Common.{◌≡◌, ℕ, List, sym, subst}
 use Rattle.std.specs.Prelude.{Result, Ok, Err, IfOk}
-use Rattle.ppp_cli.specs.Reply.{Reply, is_plain, Declines, IsReplyIfBuilt, IsReplyIfSet, IsReplyToInput, IsReplyToLines}
+use Rattle.ppp_cli.specs.Reply.{Reply, Declines, IsReplyIfSet, IsReplyToInput, IsReplyToLines}
 use Rattle.ppp_conf.specs.Config.{Settings as Config, config_of}
 use Rattle.ppp_conf.specs.Refusal.{Refusal as ConfRefusal}
 use Rattle.ppp_script.specs.Line.{Form}
@@ -19,17 +19,16 @@ module _ {E : Type 0} (form : Form E) (IsReplyTo : Config → List E → Reply �
       subst (λ ls. IsReplyIfSet form IsReplyTo (config_of (settings_in text)) ls reply) lines_is
       (subst (λ s. IsReplyIfSet form IsReplyTo (config_of s) lines reply) settings_is is)
 
-  -- its settings are read and built
-  pub built_reply : (text settings lines : List ℕ) (c : Config) (reply : Reply) → settings ≡ settings_in text → lines ≡ script_in text → config_of settings ≡ Ok c → is_plain c ≡ true →
+  -- its settings are read
+  pub read_reply : (text settings lines : List ℕ) (c : Config) (reply : Reply) → settings ≡ settings_in text → lines ≡ script_in text → config_of settings ≡ Ok c →
       IsReplyToLines form IsReplyTo c lines reply → IsReplyToInput form IsReplyTo text reply
-  built_reply text settings lines c reply settings_is lines_is read plain is =
-      of_parts text settings lines reply settings_is lines_is
-      (subst (λ r. IsReplyIfSet form IsReplyTo r lines reply) (sym read) (subst (λ b. IsReplyIfBuilt form IsReplyTo b c lines reply) (sym plain) is))
+  read_reply text settings lines c reply settings_is lines_is read is =
+      of_parts text settings lines reply settings_is lines_is (subst (λ r. IsReplyIfSet form IsReplyTo r lines reply) (sym read) is)
 
-  -- they are refused, or not built
+  -- they are refused
   pub declined_reply : (text settings lines : List ℕ) (reply : Reply) → settings ≡ settings_in text → lines ≡ script_in text → Declines (config_of settings) reply → IsReplyToInput form IsReplyTo text reply
   declined_reply text settings lines reply settings_is lines_is declines =
       of_parts text settings lines reply settings_is lines_is (by_read (config_of settings) declines) where
         by_read : (read : Result Config ConfRefusal) → Declines read reply → IsReplyIfSet form IsReplyTo read lines reply
-        by_read (Ok c) is = subst (λ b. IsReplyIfBuilt form IsReplyTo b c lines reply) (sym is.0) is.1
+        by_read (Ok c) is = absurd is
         by_read (Err refused) is = is

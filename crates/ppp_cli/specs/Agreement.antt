@@ -3,10 +3,10 @@ use Rattle.std.specs.Prelude.{◌≡◌, ℕ, List, Option, Some, None, Ok, ⊤}
 use Rattle.ppp_cli.specs.declared.command.Command.{Command}
 use Rattle.ppp_cli.specs.declared.command.Command.TheVariants.{Replay, Feed, Show}
 use Rattle.ppp_conf.specs.Config.{Settings as Config, config_of}
-use Rattle.ppp_link.specs.Link.{Link}
 use Rattle.ppp_script.specs.Event.{event_form}
 use Rattle.ppp_script.specs.Script.{events_of}
 use Rattle.ppp_script.specs.declared.event.Event.{Event}
+use Rattle.ppp_station.specs.Station.{Station}
 use Rattle.ppp_text.specs.Parts.{settings_in, script_in}
 use Rattle.ppp_world.specs.Run.{AgreesInRun}
 use Rattle.ppp_world.specs.World.{BothBegin}
@@ -15,7 +15,7 @@ use Rattle.ppp_world.specs.World.{BothBegin}
 -- text reads as, and of every two stations that begin by those settings.
 abbrev pub AgreesInReplay : List ℕ → Type 0
 AgreesInReplay text =
-    (c : Config) (events : List Event) (own other : List Link)
+    (c : Config) (events : List Event) (own other : Station)
     → config_of (settings_in text) ≡ Ok c → events_of event_form c.links (script_in text) ≡ Ok events
     → BothBegin c own other → AgreesInRun own other events
 

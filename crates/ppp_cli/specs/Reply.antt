@@ -1,12 +1,12 @@
 -- What the program answers and writes where nothing fails.
-use Rattle.std.specs.Prelude.{◌≡◌, ℕ, Bool, true, false, ◌&&◌, ◌==◌, nat_lt, List, ◌++◌, length, Option, Some, None, Result, Ok, Err, codes}
+use Rattle.std.specs.Prelude.{◌≡◌, ℕ, Bool, true, false, nat_lt, List, ◌++◌, length, Option, Some, None, Result, Ok, Err, codes}
 use Rattle.std.specs.Fmt.{decimal}
 use Rattle.ppp_cli.specs.declared.command.Command.{Command}
 use Rattle.ppp_cli.specs.declared.command.Command.TheVariants.{Replay, Feed, Show}
 use Rattle.ppp_cli.specs.declared.input.TheConstants.{MOST_OCTETS}
 use Rattle.ppp_cli.specs.declared.reply.Reply.{Reply as Reply'}
 use Rattle.ppp_cli.specs.declared.status.Status.{Status}
-use Rattle.ppp_cli.specs.declared.status.Status.TheVariants.{Ok as Fine, BadConfig, BadWords, TooLong, BadLine, Outstanding, NotBuilt}
+use Rattle.ppp_cli.specs.declared.status.Status.TheVariants.{Ok as Fine, BadConfig, BadWords, TooLong, BadLine, Outstanding}
 use Rattle.ppp_conf.specs.Config.{Settings as Config, config_of}
 use Rattle.ppp_conf.specs.ConfWhy.{why_name as conf_why_name}
 use Rattle.ppp_conf.specs.Refusal.{Refusal as ConfRefusal}
@@ -47,9 +47,6 @@ read_fault_line = codes "read fault\n"
 abbrev pub too_long_line : List ℕ
 too_long_line = codes "too long\n"
 
-abbrev pub not_built_line : List ℕ
-not_built_line = codes "not built\n"
-
 -- `line K WHY`
 abbrev pub bad_line : ℕ → LineWhy → List ℕ
 bad_line line why = codes "line " ++ decimal line ++ codes " " ++ why_name why ++ codes "\n"
@@ -77,17 +74,13 @@ reply_to_capture (Err line) = reply_to_line line EventWhy
 
 -- ---- inputs of settings and lines
 
--- the settings that are built: no multilink at either end
-abbrev pub is_plain : Config → Bool
-is_plain c = (c.a.mrru == 0) && (c.b.mrru == 0)
-
--- what is replied to settings that are refused, or that aren't built
+-- what is replied to settings that are refused
 abbrev pub Declines : Result Config ConfRefusal → Reply → Type 0
-Declines (Ok c) reply = (is_plain c ≡ false) × (reply ≡ says NotBuilt not_built_line)
+Declines (Ok c) reply = ⊥
 Declines (Err refused) reply = reply ≡ says BadConfig (bad_config refused)
 
--- The settings are looked at first, then whether they are built, then the lines in order. The command says of which form these
--- are, and what is replied to them where none is refused.
+-- The settings are looked at first, then the lines in order. The command says of which form these are, and what is replied to
+-- them where none is refused.
 module _ {E : Type 0} (form : Form E) (IsReplyTo : Config → List E → Reply → Type 0) where
   abbrev pub IsReplyToRead : Config → Result (List E) Refusal' → Reply → Type 0
   IsReplyToRead c (Ok events) reply = IsReplyTo c events reply
@@ -96,12 +89,8 @@ module _ {E : Type 0} (form : Form E) (IsReplyTo : Config → List E → Reply �
   abbrev pub IsReplyToLines : Config → List ℕ → Reply → Type 0
   IsReplyToLines c lines reply = IsReplyToRead c (events_of form c.links lines) reply
 
-  abbrev pub IsReplyIfBuilt : Bool → Config → List ℕ → Reply → Type 0
-  IsReplyIfBuilt true c lines reply = IsReplyToLines c lines reply
-  IsReplyIfBuilt false c lines reply = reply ≡ says NotBuilt not_built_line
-
   abbrev pub IsReplyIfSet : Result Config ConfRefusal → List ℕ → Reply → Type 0
-  IsReplyIfSet (Ok c) lines reply = IsReplyIfBuilt (is_plain c) c lines reply
+  IsReplyIfSet (Ok c) lines reply = IsReplyToLines c lines reply
   IsReplyIfSet (Err refused) lines reply = reply ≡ says BadConfig (bad_config refused)
 
   abbrev pub IsReplyToInput : List ℕ → Reply → Type 0

@@ -1,7 +1,7 @@
 -- How a run of the program ended.
 use Rattle.std.specs.Prelude.{ℕ, ⊤}
 use Rattle.ppp_cli.specs.declared.status.Status.{Status}
-use Rattle.ppp_cli.specs.declared.status.Status.TheVariants.{Ok as Fine, BadWords, ReadFault, TooLong, BadConfig, BadLine, Outstanding, WriteFault, Memory, NotBuilt}
+use Rattle.ppp_cli.specs.declared.status.Status.TheVariants.{Ok as Fine, BadWords, ReadFault, TooLong, BadConfig, BadLine, Outstanding, WriteFault, Memory}
 
 -- the number that the process exits with
 abbrev pub code_of : Status → ℕ
@@ -14,7 +14,6 @@ code_of (BadLine line) = 6
 code_of (Outstanding step) = 7
 code_of WriteFault = 9
 code_of Memory = 10
-code_of NotBuilt = 11
 
 -- a status that the text of an input decides, once it was read to its end
 abbrev pub IsOfText : Status → Type 0
@@ -27,7 +26,6 @@ IsOfText (BadLine line) = ⊤
 IsOfText (Outstanding step) = ⊤
 IsOfText WriteFault = ⊥
 IsOfText Memory = ⊥
-IsOfText NotBuilt = ⊤
 
 -- a status that the run of a script ends with: it was done to its end, or up to a step that is refused
 abbrev pub IsOfRun : Status → Type 0
@@ -40,4 +38,3 @@ IsOfRun (BadLine line) = ⊥
 IsOfRun (Outstanding step) = ⊤
 IsOfRun WriteFault = ⊥
 IsOfRun Memory = ⊥
-IsOfRun NotBuilt = ⊥

@@ -1,15 +1,14 @@
 //! What is replied to a text.
 
-ghost use Rattle.std.specs.Prelude.{◌≡◌, ◌≤◌, ℕ, List, length, true, IfErr, IfOk, Ok, Result};
+ghost use Rattle.std.specs.Prelude.{◌≡◌, ◌≤◌, ℕ, List, length, IfErr, IfOk, Ok, Result};
 ghost use Rattle.ppp_conf.specs.Config.{Settings, config_of, config_seen};
 ghost use Rattle.ppp_conf.specs.Refusal.{IsRefusal, Refusal as ConfRefusal};
 ghost use Rattle.ppp_script.specs.Event.{event_form};
 ghost use Rattle.ppp_script.specs.FeedEvent.{feed_form};
 ghost use Rattle.ppp_show.specs.Stream.{show_of};
-ghost use Rattle.ppp_cli.specs.Reply.{is_plain, not_built_line, reply_seen, reply_to_capture, reply_to_line, says, says_with, Declines, IsReplyToCommand, IsReplyToFeed, IsReplyToInput, IsReplyToLines, IsReplyToRun};
+ghost use Rattle.ppp_cli.specs.Reply.{reply_seen, reply_to_capture, reply_to_line, says_with, Declines, IsReplyToCommand, IsReplyToFeed, IsReplyToInput, IsReplyToLines, IsReplyToRun};
 ghost use Rattle.ppp_cli.specs.Status.{IsOfText};
 ghost use Rattle.ppp_cli.specs.declared.input.TheConstants.{MOST_OCTETS};
-ghost use Rattle.ppp_cli.specs.declared.status.Status.TheVariants.{NotBuilt};
 
 use crate::command::Command;
 use crate::status::Status;
@@ -66,7 +65,7 @@ fn reply_to_replay(alloc: Global, text: &[u8]) -> Result<Reply, Memory>
     ensures of_text { IfOk result (λ reply. IsOfText reply.status) }
 {
     let parts = part_input(text);
-    match read_built(alloc, parts.settings)? {
+    match read_settings(alloc, parts.settings)? {
         Ok(config) => reply_to_script(alloc, &config, parts.script),
         Err(reply) => Ok(reply),
     }
@@ -94,7 +93,7 @@ fn reply_to_feed(alloc: Global, text: &[u8]) -> Result<Reply, Memory>
     ensures of_text { IfOk result (λ reply. IsOfText reply.status) }
 {
     let parts = part_input(text);
-    match read_built(alloc, parts.settings)? {
+    match read_settings(alloc, parts.settings)? {
         Ok(config) => reply_to_lines(alloc, &config, parts.script),
         Err(reply) => Ok(reply),
     }
@@ -117,28 +116,18 @@ fn reply_to_lines(alloc: Global, config: &Config, lines: &[u8]) -> Result<Reply,
     }
 }
 
-/// Reads settings that are built. Else it gives the reply that refuses them.
-fn read_built(alloc: Global, settings: &[u8]) -> Result<Result<Config, Reply>, Memory>
+/// Reads settings, or gives the reply that refuses them.
+fn read_settings(alloc: Global, settings: &[u8]) -> Result<Result<Config, Reply>, Memory>
     ensures read { IfOk result (λ read. IfOk read
         (λ config. config_of settings.now ≡ Ok (config_seen config))) }
-    ensures plain { IfOk result (λ read. IfOk read
-        (λ config. is_plain (config_seen config) ≡ true)) }
     ensures declined { IfOk result (λ read. IfErr read
         (λ reply. Declines (config_of settings.now) (reply_seen reply))) }
     ensures of_text { IfOk result (λ read. IfErr read (λ reply. IsOfText reply.status)) }
 {
     match read_config(alloc, settings) {
-        Ok(config) if is_plain(&config) => Ok(Ok(config)),
-        Ok(_) => Ok(Err(refuse_unbuilt(alloc)?)),
+        Ok(config) => Ok(Ok(config)),
         Err(fault) => Ok(Err(refuse_settings(alloc, &fault)?)),
     }
-}
-
-/// Whether these settings are built: there is no multilink at either end.
-fn is_plain(config: &Config) -> bool
-    ensures { result ≡ is_plain (config_seen config.now) }
-{
-    config.a.mrru == 0 && config.b.mrru == 0
 }
 
 /// Refuses settings, with the line that says which key and why.
@@ -154,17 +143,6 @@ fn refuse_settings(alloc: Global, fault: &ConfFault) -> Result<Reply, Memory>
     Ok(Reply {
         status: Status::BadConfig,
         octets: text.into_bytes(),
-    })
-}
-
-/// Refuses settings that aren't built yet.
-fn refuse_unbuilt(alloc: Global) -> Result<Reply, Memory>
-    ensures reply { IfOk result (λ reply. reply_seen reply ≡ says NotBuilt not_built_line) }
-    ensures of_text { IfOk result (λ reply. IsOfText reply.status) }
-{
-    Ok(Reply {
-        status: Status::NotBuilt,
-        octets: Vec::from_slice(alloc, b"not built\n")?,
     })
 }
 

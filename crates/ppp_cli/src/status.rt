@@ -19,8 +19,6 @@ pub enum Status {
     WriteFault,
     /// Memory wanted.
     Memory,
-    /// The settings aren't built yet.
-    NotBuilt,
 }
 
 impl Status {
@@ -41,7 +39,6 @@ impl Status {
             Status::Outstanding(_) => 7,
             Status::WriteFault => 9,
             Status::Memory => 10,
-            Status::NotBuilt => 11,
         }
     }
 }

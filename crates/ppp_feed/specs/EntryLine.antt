@@ -5,7 +5,7 @@ use Rattle.std.specs.List.{flat_map}
 use Rattle.hex.specs.Hex.{encode_lower}
 use Rattle.ppp_station.specs.StationOut.{Entry, Push, Got, Hang}
 
--- the class, or `-` where the datagram came in no bundle
+-- the class, or `-` where the datagram came plain, in no fragment
 abbrev pub class_text : Option ℕ → List ℕ
 class_text (Some class) = decimal class
 class_text None = codes "-"

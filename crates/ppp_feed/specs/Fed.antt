@@ -6,5 +6,5 @@ use Rattle.ppp_feed.specs.declared.fed.Fed.{Fed}
 
 -- the station is as it is after this, and the lines of this are written behind the others
 pub record Adds (did : Written) (old new : Fed) : Type 0 where
-  pub links : new.station ≡ did.links
+  pub station : new.station ≡ did.station
   pub text : string_bytes new.text ≡ string_bytes old.text ++ did.text

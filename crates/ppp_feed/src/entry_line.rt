@@ -38,7 +38,7 @@ impl fmt::Display for EntryLine<'_> {
     }
 }
 
-/// The class of a datagram. It prints as its number, or as `-` where the datagram came in no bundle.
+/// The class of a datagram. It prints as its number, or as `-` where the datagram came plain, in no fragment.
 #[derive(Clone, Copy)]
 struct ClassText {
     class: Option<u8>,

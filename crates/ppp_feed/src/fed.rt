@@ -60,9 +60,9 @@ impl Fed {
     /// A line happens, with that word, and what comes of it is written.
     #[tactic(auto, unfolding(crate::specs::Feed::line_does))]
     pub(crate) fn take(&mut self, event: &FeedEvent, word: u64) -> Result<(), Memory>
-        requires { IsWithin (length self.old.station) event.now }
+        requires { IsWithin (length self.old.station.links) event.now }
         ensures adds { OnOk result (Adds (line_does event.now self.old.station word) self.old self.new) }
-        ensures count { OnOk result (length self.new.station ≡ length self.old.station) }
+        ensures count { OnOk result (length self.new.station.links ≡ length self.old.station.links) }
     {
         match event {
             FeedEvent::Up(link) => self.happens(StationEvent::Up(*link), word),
@@ -82,10 +82,10 @@ impl Fed {
 
     /// Octets come on a link, up to the end of each frame in turn.
     fn take_octets(&mut self, link: u8, octets: &[u8], word: u64) -> Result<(), Memory>
-        requires { IsOfLink (length self.old.station) link }
+        requires { IsOfLink (length self.old.station.links) link }
         ensures adds { OnOk result
             (Adds (takes_all link octets.now self.old.station word) self.old self.new) }
-        ensures count { OnOk result (length self.new.station ≡ length self.old.station) }
+        ensures count { OnOk result (length self.new.station.links ≡ length self.old.station.links) }
     {
         let mut rest = octets;
         'frames: while !rest.is_empty() {
@@ -98,12 +98,12 @@ impl Fed {
 
     /// Octets come on a link, up to the end of the first frame or discard, and it is answered how many were used.
     fn take_frame(&mut self, link: u8, octets: &[u8], word: u64) -> Result<usize, Memory>
-        requires { IsOfLink (length self.old.station) link }
+        requires { IsOfLink (length self.old.station.links) link }
         ensures adds { OnOk result
             (Adds (written_by (on_link (Takes octets.now) link self.old.station word)) self.old self.new) }
         ensures used { IfOk result
             (λ used. used ≡ (on_link (Takes octets.now) link self.old.station word).out.used) }
-        ensures count { length self.new.station ≡ length self.old.station }
+        ensures count { length self.new.station.links ≡ length self.old.station.links }
     {
         self.happens(StationEvent::Bytes(link, octets), word)?;
         Ok(self.out.used())
@@ -111,12 +111,12 @@ impl Fed {
 
     /// An event happens to the station, and the lines of its entries are written.
     fn happens(&mut self, event: StationEvent<'_>, word: u64) -> Result<(), Memory>
-        requires { IsOfLinks event (length self.old.station) }
+        requires { IsOfLinks event (length self.old.station.links) }
         ensures adds { OnOk result
             (Adds (written_by (station_does event.entry self.old.station word)) self.old self.new) }
         ensures used { OnOk result
             (self.new.out.used ≡ (station_does event.entry self.old.station word).out.used) }
-        ensures count { length self.new.station ≡ length self.old.station }
+        ensures count { length self.new.station.links ≡ length self.old.station.links }
     {
         self.station.event(event, word, &mut self.out);
         write_all(&mut self.text, &self.out)

@@ -1,21 +1,19 @@
 -- Calls that use up octets give the answer to them.
-use Rattle.std.proofs.Common.{◌≡◌, ◌≢◌, ℕ, zero, suc, ◌+◌, ◌<◌, ◌≤◌, Bool, true, false, List, [], ◌∷◌, ◌++◌, length, take, drop, refl, sym, ap, subst, ◌∙◌, arith, append_assoc, append-nil, length-drop, take-append-drop, take_all}
-use Rattle.std.specs.Prelude.{◌==◌, Option, Some, None, if◌then◌else◌}
-use Rattle.std.specs.List.{AllByRecursion}
+use Rattle.std.proofs.Common.{◌≡◌, ◌≢◌, ℕ, zero, suc, ◌<◌, ◌≤◌, Bool, true, false, List, [], ◌∷◌, ◌++◌, length, take, drop, refl, sym, ap, subst, ◌∙◌, arith, append_assoc, append-nil, length-drop, take-append-drop, take_all}
+use Rattle.std.specs.Prelude.{if◌then◌else◌}
 use Rattle.std.proofs.lemmas.Bool.Decides.{nat_tests}
 use Rattle.ppp_frame.specs.declared.escapes.TheConstants.{FLAG}
 use Rattle.ppp_frame.specs.declared.fed.Got.{Got}
 use Rattle.ppp_frame.specs.declared.fed.Got.TheVariants.{Frame, Discard, More}
-use Rattle.ppp_frame.specs.Deframer.{DeframerState, FeedStep, feed_step, Stands, Answers, AnswersGot, GoesOn, EndsOne}
+use Rattle.ppp_frame.specs.Deframer.{DeframerState, FeedStep, feed_step, Stands, AnswersGot, GoesOn, EndsOne}
 use Rattle.ppp_frame.specs.Escapes.{HasNoFlag}
-use Rattle.ppp_frame.specs.Standing.{standing_of}
 use Rattle.ppp_frame.specs.Stream.{is_flag, pieces, pieces_from, unfinished, unfinished_from}
 use Rattle.ppp_frame.specs.Verdict.{answer_of, frame_in}
 use Rattle.ppp_frame.proofs.DeframerLemmas.{StepKeeps, step_keeps}
 use Rattle.ppp_frame.proofs.StreamLemmas.{pieces-append, unfinished-append}
 use Rattle.ppp_link.specs.Answer.{Answered, IsAnswer, StandsAfter, all_calls, and_more, answer, calls, followed, joined, reader_of, takes_piece, takes_pieces}
 use Rattle.ppp_link.specs.Automata.{Automata}
-use Rattle.ppp_link.specs.Link.{Fed, Link, fed_with, read_by}
+use Rattle.ppp_link.specs.Link.{Link, fed_with, read_by}
 use Rattle.ppp_link.specs.LinkTables.{LinkTables}
 use Rattle.ppp_link.specs.Steps.{Did, begins, hears_read}
 use Rattle.ppp_link.specs.declared.link.TheConstants.{MOST_FRAME}

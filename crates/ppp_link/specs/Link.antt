@@ -11,7 +11,7 @@ use Rattle.ppp_packet.specs.declared.proto.Proto.TheVariants.{Lcp}
 use Rattle.ppp_link.specs.Automata.{Automata, automata_begun, reads_ac, reads_pf}
 use Rattle.ppp_link.specs.LinkOut.{Entry}
 use Rattle.ppp_link.specs.LinkTables.{LinkTables}
-use Rattle.ppp_link.specs.Steps.{Did, Event, begins, does, each_does, hears_read, run_by, runs}
+use Rattle.ppp_link.specs.Steps.{Did, Event, begins, does, each_does, hears_inner, hears_read, run_by, runs}
 
 pub record Link : Type 0 where
   pub tables : LinkTables
@@ -49,6 +49,10 @@ event_did k p event word = does k.tables p (Event event) word (begins k.automata
 
 abbrev pub run_did : Link → Bool → Bool → ℕ → Did
 run_did k on bacp word = each_does k.tables (runs bacp) (run_by on) word (begins k.automata)
+
+-- and a packet that came inside multilink
+abbrev pub inner_did : Link → ℕ → List ℕ → ℕ → Did
+inner_did k number octets word = hears_inner k.tables number octets word (begins k.automata)
 
 -- a link after that
 abbrev pub link_with : Link → Did → Link

@@ -184,6 +184,18 @@ hears t number info word did =
     then hears_as t (there did.automata (proto_of number)) number info word did
     else did
 
+-- What isn't taken inside multilink (RFC 1990 section 2 has none of LCP's negotiation there; this project no LCP at all, and no
+-- multilink).
+abbrev pub is_outside : ℕ → Bool
+is_outside number = (number == proto_number Lcp) || (number == 0x003d)
+
+-- a packet is taken that came inside multilink, while LCP is Opened
+unfoldable pub hears_inner : LinkTables → ℕ → List ℕ → ℕ → Did → Did
+hears_inner t number info word did =
+    if is_outside number || not (is_opened did.automata.lcp.state)
+    then did
+    else hears_as t (there did.automata (proto_of number)) number info word did
+
 abbrev pub hears_read : LinkTables → Option Read → ℕ → Did → Did
 hears_read t None word did = did
 hears_read t (Some read) word did = hears t read.protocol read.info word did

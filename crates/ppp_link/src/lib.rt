@@ -4,12 +4,12 @@
 //! the line ([`Link::up`], [`Link::down`]), of what an administrator wants ([`Link::admin_open`], [`Link::admin_close`]), of
 //! timers that fire ([`Link::timeout`]) and of octets that come ([`Link::bytes`]), and after LCP's signals says when the
 //! control protocols are to run ([`Link::run_ncps`]): a link doesn't do that itself, since in a bundle they run on one link
-//! alone. Each call empties a [`LinkOut`] and puts into it, in order, the frames to send, the signals of the protocols, and
+//! alone. What came inside multilink comes to a bundle's control link by [`Link::inner`]. Each call empties a [`LinkOut`] and puts into it, in order, the frames to send, the signals of the protocols, and
 //! what is handed up. The caller works these off before the next call.
 //!
 //! Frames of LCP are taken always, any other while LCP is Opened. LCP's are sent with whole headers, others as LCP grants.
 //!
-//! Left out: bundles, timers, and what an address means. Memory is taken by the two constructors alone.
+//! Left out: which link is in which bundle, fragments, timers, and what an address means. Memory is taken by the two constructors alone.
 #![tactic(auto)]
 
 mod automata;
@@ -20,7 +20,7 @@ mod link_out;
 mod steps;
 mod tables;
 
-pub use link::{Link, MOST_AFTER_EVENT, MOST_AFTER_FRAME, MOST_AFTER_RUN, MOST_FRAME};
+pub use link::{Link, MOST_AFTER_EVENT, MOST_AFTER_FRAME, MOST_AFTER_RUN, MOST_FRAME, MOST_INNER};
 pub use link_out::{LinkEntry, LinkOut, MOST_OCTETS, MOST_PUSH};
 pub use ppp_memory::Memory;
 

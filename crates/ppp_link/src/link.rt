@@ -7,17 +7,17 @@ ghost use Rattle.ppp_auto.specs.declared.auto_event.AutoEvent.TheVariants.{Admin
 ghost use Rattle.ppp_conf.specs.EndConfig.{end_seen};
 ghost use Rattle.ppp_packet.specs.declared.proto.Proto.TheVariants.{Lcp};
 ghost use Rattle.ppp_link.specs.Automata.{auto_at, is_timed_at};
-ghost use Rattle.ppp_link.specs.Link.{cleared, event_did, fed_with, link_begun, link_up, link_with, run_did};
+ghost use Rattle.ppp_link.specs.Link.{cleared, event_did, fed_with, inner_did, link_begun, link_up, link_with, run_did};
 ghost use Rattle.ppp_link.specs.LinkSettings.{settings_of};
 ghost use Rattle.ppp_link.specs.LinkTables.{tables_seen};
-ghost use Rattle.ppp_link.specs.declared.link.TheConstants.{MOST_AFTER_EVENT, MOST_AFTER_FRAME, MOST_AFTER_RUN, MOST_FRAME};
+ghost use Rattle.ppp_link.specs.declared.link.TheConstants.{MOST_AFTER_EVENT, MOST_AFTER_FRAME, MOST_AFTER_RUN, MOST_FRAME, MOST_INNER};
 
 use crate::automata::Automata;
 use crate::given::Given;
 use crate::link_out::LinkOut;
 use ppp_auto::{AutoEvent, AutoState, Outbox};
 use ppp_conf::EndConfig;
-use ppp_frame::{Deframer, FLAG};
+use ppp_frame::{Deframer, FLAG, FrameRef};
 use ppp_memory::Memory;
 use ppp_packet::{OptList, Proto};
 use std::alloc::Global;
@@ -31,6 +31,9 @@ pub const MOST_AFTER_EVENT: usize = 4;
 
 /// The most that a frame makes: what comes for an automaton, and the protocol that it may reject.
 pub const MOST_AFTER_FRAME: usize = 8;
+
+/// The most octets of a packet that comes inside multilink, without its protocol.
+pub const MOST_INNER: usize = 8193;
 
 /// The most that the control protocols make that go Up or Down together.
 pub const MOST_AFTER_RUN: usize = 20;
@@ -153,6 +156,24 @@ impl Link {
                 .hear(self.deframer.frame(), word, &mut self.outbox, out);
         }
         fed.used
+    }
+
+    /// Takes a packet of at most 8,193 octets that came inside multilink, on the control link of its bundle. One of LCP or
+    /// of multilink is discarded, and so is any while LCP isn't Opened; others come for their automaton, or are handed up, or
+    /// their protocol is rejected. RFC 1990 section 2 has none of LCP's negotiation there; here it is all of LCP.
+    pub fn inner(&mut self, protocol: u16, octets: &[u8], word: u64, out: &mut LinkOut)
+        requires { length octets.now ≤ MOST_INNER }
+        ensures link { self.new ≡ link_with self.old (inner_did self.old protocol octets.now word) }
+        ensures out { out.new ≡ (inner_did self.old protocol octets.now word).out }
+        ensures few { length out.new ≤ MOST_AFTER_FRAME }
+    {
+        out.clear();
+        let packet = FrameRef {
+            protocol,
+            info: octets,
+        };
+        self.automata
+            .hear_inner(packet, word, &mut self.outbox, out);
     }
 
     /// Is as a new link of the same settings.

@@ -2,7 +2,7 @@
 
 ghost use Rattle.std.specs.Prelude.{◌≤◌};
 
-use crate::{Link, LinkEntry, LinkOut};
+use crate::{Link, LinkEntry, LinkOut, MOST_INNER};
 use ppp_conf::{EndConfig, read_config};
 use ppp_frame::{Deframer, Form, FrameBuf, encode};
 use ppp_packet::{OptList, Proto};
@@ -53,6 +53,8 @@ pub(crate) enum Step<'a> {
     Octets(&'a [u8]),
     /// A frame with whole headers comes.
     Frame(u16, &'a [u8]),
+    /// A packet comes inside multilink.
+    Inner(u16, &'a [u8]),
     /// Frames of LCP come, one after another.
     Frames(&'a [&'a [u8]]),
     /// A datagram of IPv4 comes, 45 and 00, without address and control or with a short protocol.
@@ -251,6 +253,20 @@ pub(crate) fn hear_frame(
     hear(alloc, end, buffer.octets(), text)
 }
 
+/// A packet comes to an end inside multilink, and the entries are written.
+pub(crate) fn hear_inner(
+    alloc: Global,
+    end: &mut End,
+    protocol: u16,
+    octets: &[u8],
+    text: &mut String,
+) -> Result<(), Fail> {
+    if octets.len() <= MOST_INNER {
+        end.link.inner(protocol, octets, end.word, &mut end.out);
+    }
+    write_out(alloc, text, &end.out)
+}
+
 /// Writes the frames of a list as they are.
 pub(crate) fn write_raw(text: &mut String, out: &LinkOut) -> Result<(), Fail> {
     for i in 0..out.count() {
@@ -360,6 +376,7 @@ pub(crate) fn do_step(alloc: Global, pair: &mut Pair, step: Step<'_>) -> Result<
                 text,
             )
         }
+        Step::Inner(protocol, octets) => hear_inner(alloc, &mut pair.a, protocol, octets, text),
         Step::Frames(packets) => hear_frames(alloc, &mut pair.a, packets, text),
         Step::Datagram(ac, pf) => {
             hear_frame(

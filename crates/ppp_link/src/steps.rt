@@ -7,7 +7,7 @@ ghost use Rattle.ppp_packet.specs.Proto.{proto_of};
 ghost use Rattle.ppp_auto.specs.Outbox.{entry_seen, IsShort};
 ghost use Rattle.ppp_auto.specs.declared.auto.TheConstants.{LEAST_CAP, MOST_CAP};
 ghost use Rattle.ppp_link.specs.Proto.{control_of};
-ghost use Rattle.ppp_link.specs.Steps.{does, does_rejected, each_does, given_seen, hears, hears_other, is_payload, reject_packet, rejected_if, rejected_in, rejects, run_by, runs, so_far, takes, there, told_all, told_by, told_one, Event, Packet};
+ghost use Rattle.ppp_link.specs.Steps.{does, does_rejected, each_does, given_seen, hears, hears_inner, hears_other, is_outside, is_payload, reject_packet, rejected_if, rejected_in, rejects, run_by, runs, so_far, takes, there, told_all, told_by, told_one, Event, Packet};
 ghost use Rattle.ppp_link.specs.declared.link_out.TheConstants.{MOST_OCTETS, SLOTS};
 ghost use Rattle.ppp_link.specs.declared.steps.TheConstants.{MOST_ADDED, MOST_DATA, NETS, REJECT_HEADER};
 
@@ -189,6 +189,31 @@ impl Automata {
         }
     }
 
+    /// A packet is taken that came inside multilink, while LCP is Opened: none of LCP or multilink.
+    #[tactic(auto, unfolding(crate::specs::Steps::hears_inner))]
+    pub(crate) fn hear_inner(
+        &mut self,
+        packet: FrameRef<'_>,
+        word: u64,
+        outbox: &mut Outbox,
+        out: &mut LinkOut,
+    )
+        requires room { length out.old + 2 * MOST_ADDED ≤ SLOTS }
+        requires size { length packet.info.now ≤ MOST_OCTETS }
+        ensures tables { self.new.0 ≡ self.old.0 }
+        ensures did { so_far self.new.1 out.new
+            ≡ hears_inner self.old.0 packet.entry.protocol packet.entry.info.now word (so_far self.old.1 out.old) }
+        ensures few { length out.new ≤ length out.old + 2 * MOST_ADDED }
+    {
+        if is_outside(packet.protocol) || !self.is_opened() {
+            return;
+        }
+        match self.configured(packet.protocol) {
+            Some(proto) => self.take(proto, packet.info, word, outbox, out),
+            None => self.hear_other(packet, out),
+        }
+    }
+
     /// A frame is taken that is no automaton's: it is handed up, or its protocol is rejected.
     #[tactic(auto, unfolding(crate::specs::Steps::hears_other))]
     fn hear_other(&mut self, frame: FrameRef<'_>, out: &mut LinkOut)
@@ -253,6 +278,13 @@ impl Automata {
     }
 }
 
+/// Whether packets of that protocol aren't taken inside multilink.
+fn is_outside(number: u16) -> bool
+    ensures { result ≡ is_outside number }
+{
+    number == Proto::Lcp.number() || number == MULTILINK
+}
+
 /// The control protocol that a protocol of data belongs to.
 fn control_of(number: u16) -> Option<Proto>
     ensures { result ≡ control_of number }
@@ -262,7 +294,6 @@ fn control_of(number: u16) -> Option<Proto>
         0x0057 => Some(Proto::Ipv6),
         0x0023 => Some(Proto::Osi),
         0x0281 | 0x0283 => Some(Proto::Mpls),
-        0xc02d => Some(Proto::Bacp),
         _ => None,
     }
 }

@@ -241,7 +241,7 @@ fn hands_up_or_rejects(rt: HostRuntime) -> Result<(), Fail> {
     // what is an automaton's is discarded, since those are in Initial and Starting
     let handed_up =
         "c021 0801000ac02301010004; got 0021 01010004; got 0057 01010004; got 0023 01010004; \
-        got 0281 01010004; got 0283 01010004; got 003d 01010004; got c02d 01010004; c021 0802000a214501010004; ";
+        got 0281 01010004; got 0283 01010004; got 003d 01010004; c021 0802000ac02d01010004; c021 0803000a214501010004; ";
     check(
         rt.alloc(),
         &rt,
@@ -307,6 +307,47 @@ fn check_octet(
     };
     assert_eq!(rt; text.as_str(), wanted, "{value} at {place}");
     Ok(())
+}
+
+#[test]
+fn takes_packets_inside_multilink(rt: HostRuntime) -> Result<(), Fail> {
+    let info = [1, 1, 0, 4];
+    let packets = [
+        Step::Inner(0xc021, &info),
+        Step::Inner(0x003d, &info),
+        Step::Inner(0xc02d, &info),
+        Step::Inner(0x0021, &info),
+        Step::Inner(0x2145, &info),
+    ];
+    check(
+        rt.alloc(),
+        &rt,
+        OPENED,
+        &[
+            (
+                "",
+                &packets,
+                "c021 0801000ac02d01010004; c021 0802000a002101010004; c021 0803000a214501010004; ",
+            ),
+            (
+                ALL,
+                &packets,
+                "c021 0801000ac02d01010004; got 0021 01010004; c021 0802000a214501010004; ",
+            ),
+        ],
+    )?;
+    check(rt.alloc(), &rt, ASKING, &[(ALL, &packets, "")])?;
+    // IPCP takes its own
+    check(
+        rt.alloc(),
+        &rt,
+        IP_OPENED,
+        &[(
+            IP,
+            &[Step::Inner(0x8021, &[9, 7, 0, 4]), Step::StatesA],
+            "8021 0701000809070004; Opened Opened - - - - ; ",
+        )],
+    )
 }
 
 #[test]

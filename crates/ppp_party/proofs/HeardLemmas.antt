@@ -1,12 +1,12 @@
 -- What is heard of a frame can be told from what the link lends of it.
-use Rattle.std.proofs.Common.{◌≡◌, ◌≤◌, ◌-◌, ℕ, Bool, true, false, if◌then◌else◌, List, [], ◌∷◌, ◌++◌, refl, sym, ap, ◌∙◌}
+use Rattle.std.proofs.Common.{◌≡◌, ◌≤◌, ◌-◌, ℕ, Bool, true, false, if◌then◌else◌, List, [], ◌∷◌, ◌++◌, refl, sym, ap, subst, ◌∙◌}
 use Rattle.std.specs.Prelude.{◌==◌, ◌||◌, Option, Some, None, option_map, is_some, slice_get}
 use Rattle.ppp_auto.specs.Auto.{Auto, is_opened}
 use Rattle.ppp_auto.specs.Packet.{Packet, packet_of}
 use Rattle.ppp_frame.specs.Deframer.{DeframerState, feed_step}
 use Rattle.ppp_frame.specs.Header.{Read}
 use Rattle.ppp_link.specs.Automata.{Automata, auto_at}
-use Rattle.ppp_link.specs.Link.{Link, fed_with, read_by}
+use Rattle.ppp_link.specs.Link.{Link, read_by}
 use Rattle.ppp_link.specs.LinkTables.{LinkTables}
 use Rattle.ppp_link.specs.Steps.{Event, Packet as GivenPacket, after, is_payload, rejected_in, there, told_by}
 use Rattle.ppp_packet.specs.Proto.{proto_number, proto_of}
@@ -15,17 +15,19 @@ use Rattle.ppp_packet.specs.declared.proto.Proto.TheVariants.{Lcp, Ip, Ipv6, Osi
 use Rattle.ppp_auto.specs.declared.auto_event.AutoEvent.{AutoEvent}
 use Rattle.ppp_auto.specs.declared.auto_event.AutoEvent.TheVariants.{RejectedWell, RejectedBadly}
 use Rattle.ppp_station.specs.Orders.{Order, Commands, caps_after, is_same, of_frame, of_frame_for, of_given, of_other, of_packet, of_read, of_rejected, of_rejected_there, rejects_as}
-use Rattle.ppp_station.specs.Station.{on_link}
-use Rattle.ppp_station.specs.Steps.{Takes, link_done}
+use Rattle.ppp_station.specs.Moves.{runs_of}
+use Rattle.ppp_station.specs.Station.{Station, on_link}
+use Rattle.ppp_station.specs.StationOut.{AreShort, Out}
+use Rattle.ppp_station.specs.Steps.{Takes}
+use Rattle.ppp_station.proofs.MovesLemmas.{moves-at}
 use Rattle.ppp_station.proofs.OrdersLemmas.{same-proto}
-use Rattle.ppp_station.proofs.StationLemmas.{own-link}
 use Rattle.ppp_party.specs.Frame.{Carried, Frame, carried_as, carried_by}
 use Rattle.ppp_party.specs.Heard.{heard_in, hears, is_let_in, ledgers_with, state_at, states_of}
 use Rattle.ppp_party.specs.Ledger.{Ledger, Ledgers, heard, ledger_at, ledgers_by}
 use Rattle.ppp_party.specs.Party.{heard_by, heard_on, heard_packet}
 use Rattle.ppp_party.specs.declared.states.States.{States}
 use Rattle.ppp_party.proofs.PostLemmas.{number-some}
-use Rattle.ppp_party.proofs.SeatLemmas.{done-deframer}
+use Rattle.ppp_party.proofs.SeatLemmas.{own-reads}
 use Rattle.ppp_party.proofs.SendLemmas.{of-ledgers}
 
 -- ---- orders that bring nothing
@@ -160,23 +162,23 @@ heard-lent k f word gs =
 
 -- ---- what a link lends after its station's step
 
-done-lends : (octets : List ℕ) (l word : ℕ) (k : Link) → (link_done (Takes octets) l k word).link.deframer ≡ (feed_step (read_by k.automata.lcp k.deframer) octets).left
-unfolding fed_with
-done-lends octets l word k = done-deframer (Takes octets) l word k
-
 same-link : (o : Option Link) (j k : Link) → o ≡ Some j → o ≡ Some k → j ≡ k
 same-link o j k one other = let both : Some j ≡ Some k = sym one ∙ other in cc
 
 -- what the code hears is what is heard of the frame
-pub taken-heard : (k j after : Link) (f : Frame) (l word mark : ℕ) (links new : List Link) (octets : List ℕ) (lender : DeframerState) (lent : Option Carried) (states : States) (gs now : Ledgers) → 1 ≤ l →
-    slice_get links (l - 1) ≡ Some k → slice_get links (l - 1) ≡ Some j → octets ≡ f.octets → new ≡ (on_link (Takes octets) l links word).links → slice_get new (l - 1) ≡ Some after →
+pub taken-heard : (k j after : Link) (f : Frame) (l word mark : ℕ) (st new : Station) (told : Out) (octets : List ℕ) (lender : DeframerState) (lent : Option Carried) (states : States) (gs now : Ledgers) → 1 ≤ l →
+    slice_get st.links (l - 1) ≡ Some k → slice_get st.links (l - 1) ≡ Some j → octets ≡ f.octets → new ≡ (on_link (Takes octets) l st word).station →
+    told ≡ (on_link (Takes octets) l st word).out → AreShort told.entries → slice_get new.links (l - 1) ≡ Some after →
     lender ≡ after.deframer → lent ≡ carried_by lender.frame → states ≡ states_of j.automata → mark ≡ f.mark → now ≡ hears gs states mark lent → now ≡ heard_on k f word gs
-taken-heard k j after f l word mark links new octets lender lent states gs now low there here octets_are new_is at lender_is lent_is states_are mark_is now_is =
-    let same = same-link (slice_get links (l - 1)) j k here there in
-    let own : slice_get new (l - 1) ≡ Some (link_done (Takes octets) l k word).link = ap (λ ks. slice_get ks (l - 1)) new_is ∙ own-link (Takes octets) l word links k low there in
-    let done = same-link (slice_get new (l - 1)) after (link_done (Takes octets) l k word).link at own in
+taken-heard k j after f l word mark st new told octets lender lent states gs now low there here octets_are new_is told_is short at lender_is lent_is states_are mark_is now_is =
+    let step = on_link (Takes octets) l st word in
+    let to = moves-at (Takes octets) l l word st k k low low there there (subst (λ (o : Out). AreShort o.entries) told_is short) in
+    let same = same-link (slice_get st.links (l - 1)) j k here there in
+    let own : slice_get new.links (l - 1) ≡ Some to.link = ap (λ (st : Station). slice_get st.links (l - 1)) new_is ∙ to.at in
+    let done = same-link (slice_get new.links (l - 1)) after to.link at own in
     let lends : lender.frame ≡ (feed_step (read_by k.automata.lcp k.deframer) f.octets).left.frame =
-    ap (λ (d : DeframerState). d.frame) (lender_is ∙ ap (λ (k : Link). k.deframer) done ∙ done-lends octets l word k)
+    ap (λ (d : DeframerState). d.frame) (lender_is ∙ ap (λ (k : Link). k.deframer) done)
+    ∙ own-reads octets l word (runs_of (Takes octets) l st word) k to.link step.out.entries to.moves
     ∙ ap (λ xs. (feed_step (read_by k.automata.lcp k.deframer) xs).left.frame) octets_are in
     now_is
     ∙ (λ i. hears gs ((states_are ∙ ap (λ (k : Link). states_of k.automata) same) i) (mark_is i) ((lent_is ∙ ap carried_by lends) i))

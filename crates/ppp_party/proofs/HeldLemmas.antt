@@ -1,7 +1,6 @@
 -- What holds of a protocol on a link in each state of a world, by an event at either end.
-use Rattle.std.proofs.Common.{◌≡◌, ◌≢◌, ℕ, ◌-◌, ◌≤◌, List, [], ◌∷◌, length, map, refl, sym, ap, subst, ◌∙◌, inl, inr, arith}
+use Rattle.std.proofs.Common.{◌≡◌, ℕ, ◌-◌, ◌≤◌, List, [], ◌∷◌, length, refl, sym, ap, subst, ◌∙◌, inl, inr, arith}
 use Rattle.std.specs.Prelude.{Option, Some, None, option_map, slice_get}
-use Rattle.std.proofs.lemmas.Option.{slice_get_within}
 use Rattle.ppp_auto.specs.Auto.{Auto}
 use Rattle.ppp_duet.specs.Duet.{Setup, without}
 use Rattle.ppp_duet.specs.Span.{Narrow, widest}
@@ -10,21 +9,21 @@ use Rattle.ppp_packet.specs.declared.proto.Proto.{Proto}
 use Rattle.ppp_link.specs.Automata.{auto_at, automata_begun}
 use Rattle.ppp_link.specs.Link.{Link}
 use Rattle.ppp_link.specs.LinkTables.{LinkTables, table_of}
-use Rattle.ppp_station.specs.Station.{link_ready}
+use Rattle.ppp_station.specs.Station.{Station, IsBegun, link_ready, on_link, station_anew}
 use Rattle.ppp_station.specs.StationOut.{AreShort}
-use Rattle.ppp_station.specs.Steps.{Happening, LineDown, Takes, link_done}
+use Rattle.ppp_station.specs.Steps.{Happening, Takes}
+use Rattle.ppp_party.specs.Downs.{AllShortDowns}
 use Rattle.ppp_party.specs.Frame.{Frame, only}
 use Rattle.ppp_party.specs.Held.{HeldAfter, IsHeld, IsLone}
 use Rattle.ppp_party.specs.Kept.{Kept, duet_of}
 use Rattle.ppp_party.specs.Ledger.{Ledger, end_of, first_id, ledger_at}
-use Rattle.ppp_party.specs.Party.{Ends, delivers, downs, ends_begun, happens, loses, party_begun, cleared, reboots, room, turned}
-use Rattle.ppp_party.specs.Seat.{Came, IsNoFrame, IsSpoken, Seat, SeatAt, seat_happens}
+use Rattle.ppp_party.specs.Party.{Ends, delivers, downs, ends_begun, happens, loses, reboots, turned}
+use Rattle.ppp_party.specs.Seat.{Came, IsNoFrame, IsSpoken, Seat, SeatAt}
 use Rattle.ppp_party.specs.Spans.{NarrowOn, ledger_if, sent_on}
-use Rattle.ppp_party.proofs.DownLemmas.{down-short}
-use Rattle.ppp_party.proofs.KeptLemmas.{IsSame, begins-kept, came-kept, other-at, other_with, queues-at, reboots-kept, turned-kept}
-use Rattle.ppp_party.proofs.LoneLemmas.{Becomes, Goes, delivers-goes, happens-goes, happens-so, loses-goes}
-use Rattle.ppp_party.proofs.RebootLemmas.{begun-at, downs-by, downs-other, mapped-there, opened_anew, ready-auto, ready-tables, seat-begun, seat_begun, silenced, silenced-at, unheard-at}
-use Rattle.ppp_party.proofs.SeatLemmas.{delivers-came, happens-came, loses-came, same-or}
+use Rattle.ppp_party.proofs.KeptLemmas.{IsSame, begins-kept, came-kept, delivers-same, happens-same, loses-same, other-at, other_with, queues-at, reboots-kept, turned-kept}
+use Rattle.ppp_party.proofs.LoneLemmas.{Becomes, Goes, GoesDown, delivers-goes, downs-goes, happens-goes, loses-goes}
+use Rattle.ppp_party.proofs.RebootLemmas.{begun-at, begun-ready, mapped-there, opened_anew, ready-auto, ready-tables, seat-begun, seat_begun, silenced, silenced-at, stilled, unheard-at}
+use Rattle.ppp_party.proofs.SeatLemmas.{delivers-came, happens-came, loses-came}
 use Rattle.ppp_party.proofs.SpansLemmas.{AreNear, duet-narrow, makes-narrow, narrow-duet, near-span, own-sent, seat-spans, span-near, span-none}
 
 -- ---- both ends
@@ -33,28 +32,22 @@ use Rattle.ppp_party.proofs.SpansLemmas.{AreNear, duet-narrow, makes-narrow, nar
 same-sent : (m : ℕ) (p : Proto) (before after : Ends) → IsSame before after → sent_on m p after.other ≡ sent_on m p before.other
 same-sent m p before after same = ap (λ gs. (ledger_if p (slice_get gs (m - 1))).n) same.ledgers
 
--- nor does the end itself on another link
-same-elsewhere : (l m : ℕ) (p : Proto) (e : Ends) (s : Seat) (after : Ends) → SeatAt m e s → Goes l m p e s after → m ≢ l → sent_on m p after.own ≡ sent_on m p e.own
-same-elsewhere l m p e s after at goes other =
-    own-sent m p after goes.new goes.at ∙ ap (λ gs. (ledger_at gs p).n) (goes.elsewhere other) ∙ sym (own-sent m p e s at)
-
 -- ---- both speak it
 
-kept-after : (sa sb : Setup) (l m : ℕ) (p : Proto) (e after : Ends) (k : Kept sa sb p m e) → NarrowOn m p e → Goes l m p e k.own after →
-    Came sa sb p m k.own k.own_auto (end_of k.other_auto (ledger_at k.other.ledgers p)) after → HeldAfter l m p e after
-kept-after sa sb l m p e after k narrow goes came =
+kept-after : (sa sb : Setup) (m : ℕ) (p : Proto) (e after : Ends) (k : Kept sa sb p m e) → NarrowOn m p e → IsSame e after →
+    Came sa sb p m k.own k.own_auto (end_of k.other_auto (ledger_at k.other.ledgers p)) after → HeldAfter m p e after
+kept-after sa sb m p e after k narrow same came =
     let before : Narrow (duet_of k) = narrow-duet sa sb p m e k narrow in
     let at = came.seated.at in
-    let there = other-at m e after k.other came.seat goes.same k.other_seated.at at in
+    let there = other-at m e after k.other came.seat same k.other_seated.at at in
     let spans = seat-spans m p after came.seat k.other.ledgers at there.ledgers in
     let old = own-sent m p e k.own k.own_seated.at in
     let new = own-sent m p after came.seat at in
     record {
-      held = inl (record { own_setup = sa; other_setup = sb; kept = came-kept sa sb p m e after k goes.same before came });
+      held = inl (record { own_setup = sa; other_setup = sb; kept = came-kept sa sb p m e after k same before came });
       narrow = λ still. duet-narrow m p after came.seat came.auto k.other_auto k.other.ledgers spans
           (makes-narrow sa sb _ _ came.makes (omega (arith, still, old, new)) (omega arith) before);
-      other = same-sent m p e after goes.same;
-      elsewhere = λ other. same-elsewhere l m p e k.own after k.own_seated.at goes other;
+      other = same-sent m p e after same;
     }
 
 -- ---- one speaks it, and the event is there
@@ -73,9 +66,9 @@ lone-own m p e after h new at becomes same = record {
   none_under_way = becomes.less.1 ∙ ap (without becomes.less.0) h.none_under_way;
 }
 
-lone-own-after : (l m : ℕ) (p : Proto) (e after : Ends) (h : IsLone m p e) → NarrowOn m p e → Goes l m p e h.own after → HeldAfter l m p e after
+lone-own-after : (m : ℕ) (p : Proto) (e after : Ends) (h : IsLone m p e) → NarrowOn m p e → Goes m p e h.own after → HeldAfter m p e after
 unfolding lone-own
-lone-own-after l m p e after h narrow goes =
+lone-own-after m p e after h narrow goes =
     let now = lone-own m p e after h goes.new goes.at goes.becomes goes.same in
     let n = (ledger_at h.own.ledgers p).n in
     let was = seat-spans m p e h.own h.other.ledgers h.own_at h.other_at.ledgers in
@@ -87,11 +80,10 @@ lone-own-after l m p e after h narrow goes =
       held = inr (inl now);
       narrow = λ still. record {
         of_own = subst (λ n. n ≤ widest) (sym is.of_own)
-            (near-span n (ledger_at goes.new.ledgers p).n (only p goes.new.outgoing) (only p goes.new.incoming) now.none_under_way (omega (arith, still, old, new)) (goes.becomes.near near));
+            (near-span n (ledger_at goes.new.ledgers p).n (only p goes.new.outgoing) (only p goes.new.incoming) now.none_under_way (omega (arith, still, old, new)) (goes.near near));
         of_other = subst (λ n. n ≤ widest) (sym is.of_other) (span-none _ (only p goes.new.incoming) (only p goes.new.outgoing) h.none_sent);
       };
       other = same-sent m p e after goes.same;
-      elsewhere = λ other. same-elsewhere l m p e h.own after h.own_at goes other;
     }
 
 -- ---- one speaks it, and the event is at the other
@@ -115,9 +107,9 @@ lone-other m p e after h new at becomes same =
       none_under_way = quiet.none (ap (only p) (sym queues.incoming) ∙ h.none_under_way);
     }
 
-lone-other-after : (l m : ℕ) (p : Proto) (e after : Ends) (h : IsLone m p (turned e)) → NarrowOn m p e → Goes l m p e h.other after → HeldAfter l m p e after
+lone-other-after : (m : ℕ) (p : Proto) (e after : Ends) (h : IsLone m p (turned e)) → NarrowOn m p e → Goes m p e h.other after → HeldAfter m p e after
 unfolding lone-other
-lone-other-after l m p e after h narrow goes =
+lone-other-after m p e after h narrow goes =
     let s = h.other in
     let now = lone-other m p e after h goes.new goes.at goes.becomes goes.same in
     let n = (ledger_at h.own.ledgers p).n in
@@ -132,51 +124,43 @@ lone-other-after l m p e after h narrow goes =
         of_other = subst (λ n. n ≤ widest) (sym is.of_other) (near-span n n (only p goes.new.incoming) (only p goes.new.outgoing) now.none_under_way (omega arith) left);
       };
       other = same-sent m p e after goes.same;
-      elsewhere = λ other. same-elsewhere l m p e s after h.other_at goes other;
     }
-
--- the end that doesn't speak it has room for what it sends
-other-room : (m : ℕ) (p : Proto) (e : Ends) (h : IsLone m p (turned e)) → length h.other.outgoing ≤ room
-other-room m p e h =
-    let queues = queues-at m e h.other h.own h.other_at h.own_at in
-    let few = h.few_in in
-    omega (arith, few, ap length queues.incoming)
 
 -- ---- the steps
 
-pub happens-held : (what : Happening) (l m : ℕ) (p : Proto) (word : ℕ) (e : Ends) (k : Link) → 1 ≤ l → 1 ≤ m → slice_get e.own.links (l - 1) ≡ Some k → IsNoFrame what → AreShort (link_done what l k word).out →
-    NarrowOn m p e → IsHeld m p e → HeldAfter l m p e (happens what l word e)
+pub happens-held : (what : Happening) (l m : ℕ) (p : Proto) (word : ℕ) (e : Ends) (k : Link) → 1 ≤ l → 1 ≤ m → slice_get e.own.station.links (l - 1) ≡ Some k → IsNoFrame what → AreShort (on_link what l e.own.station word).out.entries →
+    NarrowOn m p e → IsHeld m p e → HeldAfter m p e (happens what l word e)
 happens-held what l m p word e k low least there none short narrow (inl on) =
     let h = on.kept in
     let seated = h.own_seated in
-    kept-after on.own_setup on.other_setup l m p e (happens what l word e) h narrow (happens-goes p what l m word e h.own k low least there short seated.well.few seated.at)
-    (happens-came on.own_setup on.other_setup p what l m word e h.own k h.own_auto (end_of h.other_auto (ledger_at h.other.ledgers p)) low least there none short seated.at seated.well seated.end)
+    kept-after on.own_setup on.other_setup m p e (happens what l word e) h narrow (happens-same what l word e)
+    (happens-came on.own_setup on.other_setup p what l m word e h.own k h.own_auto (end_of h.other_auto (ledger_at h.other.ledgers p)) low least there none short seated)
 happens-held what l m p word e k low least there none short narrow (inr (inl h)) =
-    lone-own-after l m p e (happens what l word e) h narrow (happens-goes p what l m word e h.own k low least there short h.few_out h.own_at)
+    lone-own-after m p e (happens what l word e) h narrow (happens-goes p what l m word e h.own k low least there short h.own_at)
 happens-held what l m p word e k low least there none short narrow (inr (inr h)) =
-    lone-other-after l m p e (happens what l word e) h narrow (happens-goes p what l m word e h.other k low least there short (other-room m p e h) h.other_at)
+    lone-other-after m p e (happens what l word e) h narrow (happens-goes p what l m word e h.other k low least there short h.other_at)
 
-pub delivers-held : (l m : ℕ) (p : Proto) (word : ℕ) (e : Ends) (k : Link) → 1 ≤ l → 1 ≤ m → slice_get e.own.links (l - 1) ≡ Some k →
-    ((f : Frame) (rest : List Frame) → slice_get e.own.incoming (l - 1) ≡ Some (f ∷ rest) → AreShort (link_done (Takes f.octets) l k word).out) →
-    NarrowOn m p e → IsHeld m p e → HeldAfter l m p e (delivers l word e)
+pub delivers-held : (l m : ℕ) (p : Proto) (word : ℕ) (e : Ends) (k : Link) → 1 ≤ l → 1 ≤ m → slice_get e.own.station.links (l - 1) ≡ Some k →
+    ((f : Frame) (rest : List Frame) → slice_get e.own.incoming (l - 1) ≡ Some (f ∷ rest) → AreShort (on_link (Takes f.octets) l e.own.station word).out.entries) →
+    NarrowOn m p e → IsHeld m p e → HeldAfter m p e (delivers l word e)
 delivers-held l m p word e k low least there short narrow (inl on) =
     let h = on.kept in
     let seated = h.own_seated in
-    kept-after on.own_setup on.other_setup l m p e (delivers l word e) h narrow (delivers-goes p l m word e h.own k low least there short seated.well.few seated.at)
-    (delivers-came on.own_setup on.other_setup p l m word e h.own k h.own_auto (end_of h.other_auto (ledger_at h.other.ledgers p)) low least there short seated.at seated.well seated.end)
+    kept-after on.own_setup on.other_setup m p e (delivers l word e) h narrow (delivers-same l word e)
+    (delivers-came on.own_setup on.other_setup p l m word e h.own k h.own_auto (end_of h.other_auto (ledger_at h.other.ledgers p)) low least there short seated)
 delivers-held l m p word e k low least there short narrow (inr (inl h)) =
-    lone-own-after l m p e (delivers l word e) h narrow (delivers-goes p l m word e h.own k low least there short h.few_out h.own_at)
+    lone-own-after m p e (delivers l word e) h narrow (delivers-goes p l m word e h.own k low least there short h.own_at)
 delivers-held l m p word e k low least there short narrow (inr (inr h)) =
-    lone-other-after l m p e (delivers l word e) h narrow (delivers-goes p l m word e h.other k low least there short (other-room m p e h) h.other_at)
+    lone-other-after m p e (delivers l word e) h narrow (delivers-goes p l m word e h.other k low least there short h.other_at)
 
-pub loses-held : (l m place : ℕ) (p : Proto) (e : Ends) → 1 ≤ l → 1 ≤ m → NarrowOn m p e → IsHeld m p e → HeldAfter l m p e (loses l place e)
+pub loses-held : (l m place : ℕ) (p : Proto) (e : Ends) → 1 ≤ l → 1 ≤ m → NarrowOn m p e → IsHeld m p e → HeldAfter m p e (loses l place e)
 loses-held l m place p e low least narrow (inl on) =
     let h = on.kept in
     let seated = h.own_seated in
-    kept-after on.own_setup on.other_setup l m p e (loses l place e) h narrow (loses-goes p l m place e h.own low least seated.at)
-    (loses-came on.own_setup on.other_setup p l m place e h.own h.own_auto (end_of h.other_auto (ledger_at h.other.ledgers p)) low least seated.at seated.well seated.end)
-loses-held l m place p e low least narrow (inr (inl h)) = lone-own-after l m p e (loses l place e) h narrow (loses-goes p l m place e h.own low least h.own_at)
-loses-held l m place p e low least narrow (inr (inr h)) = lone-other-after l m p e (loses l place e) h narrow (loses-goes p l m place e h.other low least h.other_at)
+    kept-after on.own_setup on.other_setup m p e (loses l place e) h narrow (loses-same l place e)
+    (loses-came on.own_setup on.other_setup p l m place e h.own h.own_auto (end_of h.other_auto (ledger_at h.other.ledgers p)) low least seated)
+loses-held l m place p e low least narrow (inr (inl h)) = lone-own-after m p e (loses l place e) h narrow (loses-goes p l m place e h.own low least h.own_at)
+loses-held l m place p e low least narrow (inr (inr h)) = lone-other-after m p e (loses l place e) h narrow (loses-goes p l m place e h.other low least h.other_at)
 
 pub turned-held : (m : ℕ) (p : Proto) (e : Ends) → IsHeld m p e → IsHeld m p (turned e)
 turned-held m p e (inl on) = inl (record { own_setup = on.other_setup; other_setup = on.own_setup; kept = turned-kept on.own_setup on.other_setup p m e on.kept })
@@ -198,13 +182,13 @@ unfolding setup-of
 begun-spoken t p a is = record { first = refl; table = refl; auto = a; there = is }
 
 -- the link of the second isn't configured for it
-lone-begun : (m : ℕ) (p : Proto) (own other : List Link) (k j : Link) → slice_get own (m - 1) ≡ Some k → slice_get other (m - 1) ≡ Some j → k ≡ link_ready k.tables → j ≡ link_ready j.tables →
+lone-begun : (m : ℕ) (p : Proto) (own other : Station) (k j : Link) → slice_get own.links (m - 1) ≡ Some k → slice_get other.links (m - 1) ≡ Some j → IsBegun own → IsBegun other →
     auto_at (automata_begun j.tables) p ≡ None → IsLone m p (ends_begun own other)
 lone-begun m p own other k j there here ready steady none = record {
   own = seat_begun k.tables [];
   other = seat_begun j.tables [];
-  own_at = seat-begun m own other k j there here ready;
-  other_at = seat-begun m other own j k here there steady;
+  own_at = seat-begun m own other k j there here (begun-ready m own k ready there);
+  other_at = seat-begun m other own j k here there (begun-ready m other j steady here);
   few_out = omega arith;
   few_in = omega arith;
   silent = none-ready j.tables p none;
@@ -213,7 +197,7 @@ lone-begun m p own other k j there here ready steady none = record {
   none_under_way = refl;
 }
 
-begins-by : (m : ℕ) (p : Proto) (own other : List Link) (k j : Link) → slice_get own (m - 1) ≡ Some k → slice_get other (m - 1) ≡ Some j → k ≡ link_ready k.tables → j ≡ link_ready j.tables →
+begins-by : (m : ℕ) (p : Proto) (own other : Station) (k j : Link) → slice_get own.links (m - 1) ≡ Some k → slice_get other.links (m - 1) ≡ Some j → IsBegun own → IsBegun other →
     (a b : Option Auto) → auto_at (automata_begun k.tables) p ≡ a → auto_at (automata_begun j.tables) p ≡ b → IsHeld m p (ends_begun own other)
 begins-by m p own other k j there here ready steady (Some a) (Some b) is one =
     let sa = setup-of k.tables p in
@@ -222,47 +206,33 @@ begins-by m p own other k j there here ready steady (Some a) (Some b) is one =
 begins-by m p own other k j there here ready steady None (Some b) is one = inr (inr (lone-begun m p other own j k here there steady ready is))
 begins-by m p own other k j there here ready steady a None is one = inr (inl (lone-begun m p own other k j there here ready steady one))
 
-pub begins-held : (m : ℕ) (p : Proto) (own other : List Link) (k j : Link) → 1 ≤ m → slice_get own (m - 1) ≡ Some k → slice_get other (m - 1) ≡ Some j → k ≡ link_ready k.tables → j ≡ link_ready j.tables →
+pub begins-held : (m : ℕ) (p : Proto) (own other : Station) (k j : Link) → 1 ≤ m → slice_get own.links (m - 1) ≡ Some k → slice_get other.links (m - 1) ≡ Some j → IsBegun own → IsBegun other →
     IsHeld m p (ends_begun own other)
 begins-held m p own other k j least there here ready steady = begins-by m p own other k j there here ready steady _ _ refl refl
 
 -- ---- an end that begins anew
 
--- before the lines of the other end go down
-abbrev stilled : Ends → Ends
-stilled e = record { own = cleared e.other; other = party_begun (map (λ k. link_ready k.tables) e.own.links) }
-
--- the end itself, as it begins anew
+-- the end itself
 begun-at-other : (m : ℕ) (e : Ends) (s o : Seat) → SeatAt m e s → SeatAt m (turned e) o → SeatAt m (turned (stilled e)) (seat_begun s.link.tables [])
-begun-at-other m e s o own other = record {
-  link = mapped-there (λ k. link_ready k.tables) e.own.links (m - 1) s.link own.link;
-  ledgers = mapped-there _ (map (λ k. link_ready k.tables) e.own.links) (m - 1) (link_ready s.link.tables) (mapped-there (λ k. link_ready k.tables) e.own.links (m - 1) s.link own.link);
-  incoming = mapped-there _ (map (λ k. link_ready k.tables) e.own.links) (m - 1) (link_ready s.link.tables) (mapped-there (λ k. link_ready k.tables) e.own.links (m - 1) s.link own.link);
-  outgoing = mapped-there (λ queue. []) e.other.incoming (m - 1) o.incoming other.incoming;
-}
-
--- what the other end's link comes to
-record HasDowns (m word : ℕ) (p : Proto) (e : Ends) (o : Seat) : Type 0 where
-  at : SeatAt m (downs (length e.other.links) 1 word (stilled e)) (seat_happens LineDown m word (silenced o))
-  becomes : Becomes p (silenced o) (seat_happens LineDown m word (silenced o))
-  same : IsSame (stilled e) (downs (length e.other.links) 1 word (stilled e))
-
-has-downs : (m word : ℕ) (p : Proto) (e : Ends) (s o : Seat) → 1 ≤ m → SeatAt m e s → SeatAt m (turned e) o → HasDowns m word p e o
-has-downs m word p e s o least own other =
-    let n = length e.other.links in
-    let within = slice_get_within e.other.links (m - 1) o.link other.link in
-    let stays = downs-other n 1 word (stilled e) in
+begun-at-other m e s o own other =
+    let there = mapped-there (λ k. link_ready k.tables) e.own.station.links (m - 1) s.link own.link in
     record {
-      at = downs-by n 1 word m (stilled e) (silenced o) (omega arith) least (omega (arith, within, least)) (omega arith) (silenced-at m e s o own other) (same-or m 1);
-      becomes = happens-so p LineDown m word (silenced o) (down-short m word o.link);
-      same = record { links = stays.0; ledgers = stays.1 };
+      link = there;
+      ledgers = mapped-there _ (station_anew e.own.station).links (m - 1) (link_ready s.link.tables) there;
+      incoming = mapped-there _ (station_anew e.own.station).links (m - 1) (link_ready s.link.tables) there;
+      outgoing = mapped-there (λ queue. []) e.other.incoming (m - 1) o.incoming other.incoming;
     }
 
+-- what the other end's link comes to when its lines have gone down
+has-downs : (m word : ℕ) (p : Proto) (e : Ends) (s o : Seat) → 1 ≤ m → AllShortDowns word e.other.station → SeatAt m e s → SeatAt m (turned e) o →
+    GoesDown m p (stilled e) (silenced o) (downs (length e.other.station.links) 1 word (stilled e))
+has-downs m word p e s o least short own other = downs-goes p (length e.other.station.links) 1 m word (stilled e) (silenced o) (omega arith) least (omega arith) short (silenced-at m e s o own other)
+
 -- the other end doesn't speak it: it is still so when its lines have gone down
-reboots-own : (m : ℕ) (p : Proto) (word : ℕ) (e : Ends) → 1 ≤ m → IsLone m p e → IsLone m p (reboots word e)
+reboots-own : (m : ℕ) (p : Proto) (word : ℕ) (e : Ends) → 1 ≤ m → AllShortDowns word e.other.station → IsLone m p e → IsLone m p (reboots word e)
 unfolding reboots
-reboots-own m p word e least h =
-    let downs = has-downs m word p e h.own h.other least h.own_at h.other_at in
+reboots-own m p word e least short h =
+    let downs = has-downs m word p e h.own h.other least short h.own_at h.other_at in
     let before : IsLone m p (turned (stilled e)) = record {
       own = seat_begun h.own.link.tables [];
       other = silenced h.other;
@@ -275,13 +245,13 @@ reboots-own m p word e least h =
       none_sent = ap (λ (g : Ledger). g.n) (unheard-at h.other.ledgers p) ∙ h.none_sent;
       none_under_way = refl;
     } in
-    lone-other m p (stilled e) _ before (seat_happens LineDown m word (silenced h.other)) downs.at downs.becomes downs.same
+    lone-other m p (stilled e) _ before downs.new downs.at downs.becomes downs.same
 
 -- the end that begins anew doesn't speak it
-reboots-other : (m : ℕ) (p : Proto) (word : ℕ) (e : Ends) → 1 ≤ m → IsLone m p (turned e) → IsLone m p (turned (reboots word e))
+reboots-other : (m : ℕ) (p : Proto) (word : ℕ) (e : Ends) → 1 ≤ m → AllShortDowns word e.other.station → IsLone m p (turned e) → IsLone m p (turned (reboots word e))
 unfolding reboots
-reboots-other m p word e least h =
-    let downs = has-downs m word p e h.other h.own least h.other_at h.own_at in
+reboots-other m p word e least short h =
+    let downs = has-downs m word p e h.other h.own least short h.other_at h.own_at in
     let t = h.other.link.tables in
     let before : IsLone m p (stilled e) = record {
       own = silenced h.own;
@@ -295,9 +265,9 @@ reboots-other m p word e least h =
       none_sent = ap (λ (g : Ledger). g.n) (begun-at p);
       none_under_way = refl;
     } in
-    lone-own m p (stilled e) _ before (seat_happens LineDown m word (silenced h.own)) downs.at downs.becomes downs.same
+    lone-own m p (stilled e) _ before downs.new downs.at downs.becomes downs.same
 
-pub reboots-held : (m : ℕ) (p : Proto) (word : ℕ) (e : Ends) → 1 ≤ m → IsHeld m p e → IsHeld m p (reboots word e)
-reboots-held m p word e least (inl on) = inl (record { own_setup = on.own_setup; other_setup = on.other_setup; kept = reboots-kept on.own_setup on.other_setup p m word e on.kept least })
-reboots-held m p word e least (inr (inl h)) = inr (inl (reboots-own m p word e least h))
-reboots-held m p word e least (inr (inr h)) = inr (inr (reboots-other m p word e least h))
+pub reboots-held : (m : ℕ) (p : Proto) (word : ℕ) (e : Ends) → 1 ≤ m → AllShortDowns word e.other.station → IsHeld m p e → IsHeld m p (reboots word e)
+reboots-held m p word e least short (inl on) = inl (record { own_setup = on.own_setup; other_setup = on.other_setup; kept = reboots-kept on.own_setup on.other_setup p m word e on.kept least short })
+reboots-held m p word e least short (inr (inl h)) = inr (inl (reboots-own m p word e least short h))
+reboots-held m p word e least short (inr (inr h)) = inr (inr (reboots-other m p word e least short h))

@@ -1,5 +1,4 @@
 pub mod DoneLemmas
-mod DownLemmas
 mod HeardLemmas
 pub mod HeldLemmas
 pub mod KeptLemmas
@@ -16,6 +15,5 @@ pub mod RebootLemmas
 mod ResultLemmas
 pub mod SeatLemmas
 mod SendLemmas
-mod SentLemmas
 pub mod SpansLemmas
 mod StepLemmas

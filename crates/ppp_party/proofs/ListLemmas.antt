@@ -1,7 +1,8 @@
 -- Lists that a loop walks, and places in lists.
-use Rattle.std.proofs.Common.{◌≡◌, ℕ, zero, suc, ◌-◌, ◌<◌, ◌≤◌, List, [], ◌∷◌, ◌++◌, take, drop, length, map, set, get_or, refl, sym, ap, ◌∙◌, arith}
+use Rattle.std.proofs.Common.{◌≡◌, ℕ, zero, suc, ◌-◌, ◌<◌, ◌≤◌, List, [], ◌∷◌, ◌++◌, take, drop, length, map, set, get_or, refl, sym, ap, subst, ◌∙◌, arith}
 use Rattle.std.specs.Prelude.{Some, slice_get}
-use Rattle.std.proofs.lemmas.Option.{slice_get-get_or}
+use Rattle.std.specs.List.{AllByRecursion}
+use Rattle.std.proofs.lemmas.Option.{slice_get-get_or, slice_get_read}
 use Rattle.ppp_party.specs.Party.{at_link}
 
 -- what is left at a place begins with what stands there
@@ -9,6 +10,27 @@ pub drop-get : {X : Type 0} (xs : List X) (i : ℕ) (x : X) → slice_get xs i �
 drop-get [] i x is = absurd (cc)
 drop-get (y ∷ ys) zero x is = cc
 drop-get (y ∷ ys) (suc i) x is = drop-get ys i x is
+
+-- the first, and one more
+pub take-next : {X : Type 0} (xs : List X) (i : ℕ) (x : X) → slice_get xs i ≡ Some x → take (suc i) xs ≡ take i xs ++ x ∷ []
+take-next [] i x is = absurd (cc)
+take-next (y ∷ ys) zero x is = let same : y ≡ x = cc in rw same refl
+take-next (y ∷ ys) (suc i) x is = ap (λ ys. y ∷ ys) (take-next ys i x is)
+
+-- what holds of all holds at a place
+pub all-at : {X : Type 0} (P : X → Type 0) (xs : List X) (i : ℕ) (x : X) → AllByRecursion P xs → slice_get xs i ≡ Some x → P x
+all-at P [] i x all is = absurd (cc)
+all-at P (y ∷ ys) zero x all is = let same : y ≡ x = cc in subst P same all.0
+all-at P (y ∷ ys) (suc i) x all is = all-at P ys i x all.1 is
+
+pub all-set : {X : Type 0} (P : X → Type 0) (xs : List X) (i : ℕ) (x : X) → AllByRecursion P xs → P x → AllByRecursion P (set xs i x)
+all-set P [] i x all one = tt
+all-set P (y ∷ ys) zero x all one = (one, all.1)
+all-set P (y ∷ ys) (suc i) x all one = (all.0, all-set P ys i x all.1 one)
+
+-- what an index lends
+pub lent-at : {X : Type 0} (xs : List X) (at l : ℕ) (x : X) → at ≡ l - 1 → 1 ≤ l → l ≤ length xs → x ≡ get_or xs at x → slice_get xs (l - 1) ≡ Some x
+lent-at xs at l x is low high lends = ap (slice_get xs) (sym is) ∙ slice_get_read xs (length xs) at x refl (omega (arith, is, low)) lends
 
 -- the first are changed, and one more
 mapped-next : {X : Type 0} (f : X → X) (xs : List X) (i : ℕ) (x : X) → slice_get xs i ≡ Some x →
@@ -41,3 +63,12 @@ at-set f xs (suc i) x low is =
     let e : suc i - 1 ≡ i = omega arith in
     let there : slice_get xs i ≡ Some x = rw e at is in
     rw e (at-next f xs i x there)
+
+-- there is a link of that number
+pub there-is : {X : Type 0} (xs : List X) (l : ℕ) → 1 ≤ l → l ≤ length xs → (x : X) × (slice_get xs (l - 1) ≡ Some x)
+there-is xs l low high = by xs (l - 1) (omega arith)
+  where
+    by : {X : Type 0} (xs : List X) (i : ℕ) → i < length xs → (x : X) × (slice_get xs i ≡ Some x)
+    by [] i less = absurd (omega arith)
+    by (x ∷ xs) zero less = (x, refl)
+    by (x ∷ xs) (suc i) less = by xs i (omega arith)

@@ -16,7 +16,7 @@ use Rattle.ppp_auto.specs.declared.action.Action.{Action}
 use Rattle.ppp_auto.specs.declared.action.Action.TheVariants.{ThisLayerUp, ThisLayerDown, ThisLayerStarted, ThisLayerFinished, InitializeRestartCount, ZeroRestartCount, SendConfigureRequest, RepeatConfigureRequest, SendConfigureAck, SendConfigureNak, SendTerminateRequest, SendTerminateAck, SendCodeReject, SendEchoReply}
 use Rattle.ppp_auto.specs.declared.auto_event.AutoEvent.{AutoEvent}
 use Rattle.ppp_duet.specs.Duet as duet
-use Rattle.ppp_duet.specs.Duet.{Did, Duet, End, Event, Marked, Setup, at_first, does, mark_of, run, takes, with_a}
+use Rattle.ppp_duet.specs.Duet.{Duet, End, Event, Marked, Setup, at_first, run, with_a}
 use Rattle.ppp_duet.proofs.NarrowRunLemmas.{run_append}
 use Rattle.ppp_link.specs.Automata.{with_cap}
 use Rattle.ppp_station.specs.Orders.{Obeyed, Order, Commands, SetsCap, Hears, RejectsProtocol, and_sends, obeyed, obeys, obeys_all, packets_in}

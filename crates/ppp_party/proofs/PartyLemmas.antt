@@ -1,7 +1,6 @@
 -- What an event makes of the two ends: how many links there are, and how much is counted.
-use Rattle.std.proofs.Common.{◌≡◌, ◌≢◌, ℕ, zero, suc, ◌+◌, ◌-◌, ◌<◌, ◌≤◌, List, [], ◌∷◌, length, map, refl, sym, ap, subst, ◌∙◌, arith, inl, inr}
-use Rattle.std.specs.Prelude.{◌⊎◌, Option, Some, None, slice_get}
-use Rattle.std.specs.List.{AllByRecursion}
+use Rattle.std.proofs.Common.{◌≡◌, ℕ, zero, suc, ◌+◌, ◌-◌, ◌<◌, ◌≤◌, List, [], ◌∷◌, length, map, refl, sym, ap, subst, ◌∙◌, arith}
+use Rattle.std.specs.Prelude.{Option, Some, None, slice_get}
 use Rattle.std.proofs.lemmas.List.{length-map}
 use Rattle.ppp_auto.specs.Auto.{Auto}
 use Rattle.ppp_auto.specs.Packet.{Packet, Request, Ack, Nak, Reject, Other, packet_of}
@@ -9,59 +8,46 @@ use Rattle.ppp_auto.specs.declared.auto_state.AutoState.{AutoState}
 use Rattle.ppp_link.specs.Automata.{auto_at}
 use Rattle.ppp_link.specs.Link.{Link}
 use Rattle.ppp_station.specs.Orders.{Order, Commands, SetsCap, Hears, RejectsProtocol, of_link}
-use Rattle.ppp_station.specs.Station.{link_ready, on_link, stepped_by, with_link}
-use Rattle.ppp_station.specs.StationOut.{AreShort, Entry}
-use Rattle.ppp_station.specs.Steps.{Happening, LineDown, Takes, link_done}
-use Rattle.ppp_party.specs.Counted.{AreCounted, IsCounted}
+use Rattle.ppp_station.specs.Station.{Station, link_ready, on_link, station_anew}
+use Rattle.ppp_station.specs.StationOut.{AreShort}
+use Rattle.ppp_station.specs.Steps.{Happening, LineDown, Takes}
+use Rattle.ppp_station.proofs.MovesLemmas.{counts}
+use Rattle.ppp_party.specs.Counted.{AllCounted, AreCounted, IsCounted}
+use Rattle.ppp_party.specs.Downs.{AreShortDowns}
 use Rattle.ppp_party.specs.Frame.{Frame}
 use Rattle.ppp_party.specs.Ledger.{Ledger, Ledgers, heard, ledger_at, ledger_begun, ledgers_begun}
-use Rattle.ppp_party.specs.Party.{Ends, Party, at_link, cleared, delivers, downs, each_noted, happens, heard_by, heard_on, heard_packet, loses, party_begun, reboots, taking_front, unheard, with_heard}
-use Rattle.ppp_station.proofs.StationLemmas.{other-links}
-use Rattle.ppp_party.proofs.SeatLemmas.{same-or}
-use Rattle.ppp_party.proofs.SendLemmas.{counted-pushes, of-ledgers}
+use Rattle.ppp_party.specs.Party.{Ends, Party, at_link, cleared, delivers, downs, happens, heard_by, heard_on, heard_packet, loses, party_begun, reboots, taking_front, unheard, with_heard}
+use Rattle.ppp_party.proofs.SendLemmas.{all-more, noted-counted, of-ledgers}
 
 -- ---- how many links
 
-with-length : (l : ℕ) (k : Link) (links : List Link) → length (with_link l k links) ≡ length links
-with-length l k [] = refl
-with-length zero k (x ∷ xs) = refl
-with-length (suc zero) k (x ∷ xs) = refl
-with-length (suc (suc l)) k (x ∷ xs) = ap suc (with-length (suc l) k xs)
-
-stepped-length : (what : Happening) (l word : ℕ) (links : List Link) (o : Option Link) → length (stepped_by what l links word o).links ≡ length links
-stepped-length what l word links None = refl
-stepped-length what l word links (Some k) = with-length l (link_done what l k word).link links
-
-pub on_link-length : (what : Happening) (l word : ℕ) (links : List Link) → length (on_link what l links word).links ≡ length links
-on_link-length what l word links = stepped-length what l word links (slice_get links (l - 1))
-
-pub happens-own : (what : Happening) (l word : ℕ) (e : Ends) → length (happens what l word e).own.links ≡ length e.own.links
+pub happens-own : (what : Happening) (l word : ℕ) (e : Ends) → length (happens what l word e).own.station.links ≡ length e.own.station.links
 unfolding happens
-happens-own what l word e = on_link-length what l word e.own.links
+happens-own what l word e = counts what l word e.own.station
 
-pub happens-other : (what : Happening) (l word : ℕ) (e : Ends) → (happens what l word e).other.links ≡ e.other.links
+pub happens-other : (what : Happening) (l word : ℕ) (e : Ends) → (happens what l word e).other.station ≡ e.other.station
 unfolding happens
 happens-other what l word e = refl
 
-front-own : (l word : ℕ) (o : Option (List Frame)) (e : Ends) → length (taking_front l word o e).own.links ≡ length e.own.links
+front-own : (l word : ℕ) (o : Option (List Frame)) (e : Ends) → length (taking_front l word o e).own.station.links ≡ length e.own.station.links
 front-own l word None e = refl
 front-own l word (Some []) e = refl
-front-own l word (Some (f ∷ rest)) e = on_link-length (Takes f.octets) l word e.own.links
+front-own l word (Some (f ∷ rest)) e = counts (Takes f.octets) l word e.own.station
 
-front-other : (l word : ℕ) (o : Option (List Frame)) (e : Ends) → (taking_front l word o e).other.links ≡ e.other.links
+front-other : (l word : ℕ) (o : Option (List Frame)) (e : Ends) → (taking_front l word o e).other.station ≡ e.other.station
 front-other l word None e = refl
 front-other l word (Some []) e = refl
 front-other l word (Some (f ∷ rest)) e = refl
 
-pub delivers-own : (l word : ℕ) (e : Ends) → length (delivers l word e).own.links ≡ length e.own.links
+pub delivers-own : (l word : ℕ) (e : Ends) → length (delivers l word e).own.station.links ≡ length e.own.station.links
 unfolding delivers
 delivers-own l word e = front-own l word (slice_get e.own.incoming (l - 1)) e
 
-pub delivers-other : (l word : ℕ) (e : Ends) → (delivers l word e).other.links ≡ e.other.links
+pub delivers-other : (l word : ℕ) (e : Ends) → (delivers l word e).other.station ≡ e.other.station
 unfolding delivers
 delivers-other l word e = front-other l word (slice_get e.own.incoming (l - 1)) e
 
-pub loses-own : (l place : ℕ) (e : Ends) → (loses l place e).own.links ≡ e.own.links
+pub loses-own : (l place : ℕ) (e : Ends) → (loses l place e).own.station ≡ e.own.station
 unfolding loses
 loses-own l place e = refl
 
@@ -69,51 +55,32 @@ pub loses-other : (l place : ℕ) (e : Ends) → (loses l place e).other ≡ e.o
 unfolding loses
 loses-other l place e = refl
 
-pub downs-own : (many l word : ℕ) (e : Ends) → length (downs many l word e).own.links ≡ length e.own.links
+pub downs-own : (many l word : ℕ) (e : Ends) → length (downs many l word e).own.station.links ≡ length e.own.station.links
 downs-own zero l word e = refl
 downs-own (suc many) l word e = downs-own many (l + 1) word (happens LineDown l word e) ∙ happens-own LineDown l word e
 
-pub downs-other : (many l word : ℕ) (e : Ends) → (downs many l word e).other.links ≡ e.other.links
+pub downs-other : (many l word : ℕ) (e : Ends) → (downs many l word e).other.station ≡ e.other.station
 downs-other zero l word e = refl
 downs-other (suc many) l word e = downs-other many (l + 1) word (happens LineDown l word e) ∙ happens-other LineDown l word e
 
-pub reboots-own : (word : ℕ) (e : Ends) → length (reboots word e).own.links ≡ length e.own.links
+pub reboots-own : (word : ℕ) (e : Ends) → length (reboots word e).own.station.links ≡ length e.own.station.links
 unfolding reboots
 reboots-own word e =
-    let anew = map (λ (k : Link). link_ready k.tables) e.own.links in
-    ap length (downs-other (length e.other.links) 1 word (record { own = cleared e.other; other = party_begun anew }))
-    ∙ length-map e.own.links (λ (k : Link). link_ready k.tables)
+    ap (λ (st : Station). length st.links) (downs-other (length e.other.station.links) 1 word (record { own = cleared e.other; other = party_begun (station_anew e.own.station) }))
+    ∙ length-map e.own.station.links (λ (k : Link). link_ready k.tables)
 
-pub reboots-other : (word : ℕ) (e : Ends) → length (reboots word e).other.links ≡ length e.other.links
+pub reboots-other : (word : ℕ) (e : Ends) → length (reboots word e).other.station.links ≡ length e.other.station.links
 unfolding reboots
-reboots-other word e = downs-own (length e.other.links) 1 word (record { own = cleared e.other; other = party_begun (map (λ (k : Link). link_ready k.tables) e.own.links) })
-
--- ---- the entries of a step
-
-pub entries-of : (what : Happening) (l word : ℕ) (links : List Link) (k : Link) → slice_get links (l - 1) ≡ Some k → (on_link what l links word).out.entries ≡ (link_done what l k word).out
-entries-of what l word links k is = ap (λ o. (stepped_by what l links word o).out.entries) is
+reboots-other word e = downs-own (length e.other.station.links) 1 word (record { own = cleared e.other; other = party_begun (station_anew e.own.station) })
 
 -- ---- how much is counted
 
 pub counted-above : (most more : ℕ) (e : Party) → most ≤ more → AreCounted most e → AreCounted more e
-counted-above most more e less all = each e.ledgers all
-  where
-    each : (gss : List Ledgers) → AllByRecursion (λ gs. IsCounted most gs) gss → AllByRecursion (λ gs. IsCounted more gs) gss
-    each [] all = tt
-    each (gs ∷ gss) all = ((λ p. let one = all.0 p in omega (arith, one, less)), each gss all.1)
+counted-above most more e less all = all-more most more e.ledgers less all
 
-pub counted-at : (most i : ℕ) (gss : List Ledgers) (gs : Ledgers) → AllByRecursion (λ gs. IsCounted most gs) gss → slice_get gss i ≡ Some gs → IsCounted most gs
-counted-at most i [] gs all is = absurd (cc)
-counted-at most zero (x ∷ xs) gs all is = let same : x ≡ gs = cc in subst (λ gs. IsCounted most gs) same all.0
-counted-at most (suc i) (x ∷ xs) gs all is = counted-at most i xs gs all.1 is
-
-noted-counted : (most few m : ℕ) (es : List Entry) (gss : List Ledgers) → length es ≤ few → AllByRecursion (λ gs. IsCounted most gs) gss → AllByRecursion (λ gs. IsCounted (most + few) gs) (each_noted m es gss)
-noted-counted most few m es [] less all = tt
-noted-counted most few m es (gs ∷ gss) less all = (counted-pushes most few m gs es less all.0, noted-counted most few (m + 1) es gss less all.1)
-
-pub happens-counted : (most few : ℕ) (what : Happening) (l word : ℕ) (e : Ends) → length (on_link what l e.own.links word).out.entries ≤ few → AreCounted most e.own → AreCounted (most + few) (happens what l word e).own
+pub happens-counted : (most few : ℕ) (what : Happening) (l word : ℕ) (e : Ends) → length (on_link what l e.own.station word).out.entries ≤ few → AreCounted most e.own → AreCounted (most + few) (happens what l word e).own
 unfolding happens
-happens-counted most few what l word e less all = noted-counted most few 1 (on_link what l e.own.links word).out.entries e.own.ledgers less all
+happens-counted most few what l word e less all = noted-counted most few 1 (on_link what l e.own.station word).out.entries e.own.ledgers less all
 
 pub happens-others : (most : ℕ) (what : Happening) (l word : ℕ) (e : Ends) → AreCounted most e.other → AreCounted most (happens what l word e).other
 unfolding happens
@@ -148,7 +115,7 @@ heard-counted most word k f gs all p =
     omega (arith, one, few, ap (λ (g : Ledger). g.n) same)
 
 at-counted : (most l : ℕ) (change : Ledgers → Ledgers) (gss : List Ledgers) → ((gs : Ledgers) → IsCounted most gs → IsCounted most (change gs)) →
-    AllByRecursion (λ gs. IsCounted most gs) gss → AllByRecursion (λ gs. IsCounted most gs) (at_link l change gss)
+    AllCounted most gss → AllCounted most (at_link l change gss)
 at-counted most l change [] keeps all = tt
 at-counted most zero change (gs ∷ gss) keeps all = all
 at-counted most (suc zero) change (gs ∷ gss) keeps all = (keeps gs all.0, all.1)
@@ -158,15 +125,15 @@ with-counted : (most l word : ℕ) (f : Frame) (rest : List Frame) (k : Option L
 with-counted most l word f rest None e all = all
 with-counted most l word f rest (Some k) e all = at-counted most l (heard_on k f word) e.ledgers (λ gs one. heard-counted most word k f gs one) all
 
-front-counted : (most few l word : ℕ) (o : Option (List Frame)) (e : Ends) → ((f : Frame) (rest : List Frame) → o ≡ Some (f ∷ rest) → length (on_link (Takes f.octets) l e.own.links word).out.entries ≤ few) →
+front-counted : (most few l word : ℕ) (o : Option (List Frame)) (e : Ends) → ((f : Frame) (rest : List Frame) → o ≡ Some (f ∷ rest) → length (on_link (Takes f.octets) l e.own.station word).out.entries ≤ few) →
     AreCounted most e.own → AreCounted (most + few) (taking_front l word o e).own
 front-counted most few l word None e less all = counted-above most (most + few) e.own (omega arith) all
 front-counted most few l word (Some []) e less all = counted-above most (most + few) e.own (omega arith) all
 front-counted most few l word (Some (f ∷ rest)) e less all =
-    let heard = with_heard l word f rest (slice_get e.own.links (l - 1)) e.own in
-    noted-counted most few 1 (on_link (Takes f.octets) l e.own.links word).out.entries heard.ledgers (less f rest refl) (with-counted most l word f rest (slice_get e.own.links (l - 1)) e.own all)
+    let heard = with_heard l word f rest (slice_get e.own.station.links (l - 1)) e.own in
+    noted-counted most few 1 (on_link (Takes f.octets) l e.own.station word).out.entries heard.ledgers (less f rest refl) (with-counted most l word f rest (slice_get e.own.station.links (l - 1)) e.own all)
 
-pub delivers-counted : (most few l word : ℕ) (e : Ends) → ((f : Frame) (rest : List Frame) → slice_get e.own.incoming (l - 1) ≡ Some (f ∷ rest) → length (on_link (Takes f.octets) l e.own.links word).out.entries ≤ few) →
+pub delivers-counted : (most few l word : ℕ) (e : Ends) → ((f : Frame) (rest : List Frame) → slice_get e.own.incoming (l - 1) ≡ Some (f ∷ rest) → length (on_link (Takes f.octets) l e.own.station word).out.entries ≤ few) →
     AreCounted most e.own → AreCounted (most + few) (delivers l word e).own
 unfolding delivers
 delivers-counted most few l word e less all = front-counted most few l word (slice_get e.own.incoming (l - 1)) e less all
@@ -185,12 +152,12 @@ unfolding loses
 loses-counted most l place e all = all
 
 -- an end as it begins has counted nothing
-begun-each : (links : List Link) → AllByRecursion (λ gs. IsCounted 0 gs) (map (λ (k : Link). ledgers_begun) links)
+begun-each : (links : List Link) → AllCounted 0 (map (λ (k : Link). ledgers_begun) links)
 begun-each [] = tt
 begun-each (k ∷ ks) = ((λ p. let e = of-ledgers (λ p. ledger_begun) p in omega (arith, ap (λ (g : Ledger). g.n) e)), begun-each ks)
 
-pub begun-counted : (links : List Link) → AreCounted 0 (party_begun links)
-begun-counted links = begun-each links
+begun-counted : (st : Station) → AreCounted 0 (party_begun st)
+begun-counted st = begun-each st.links
 
 pub downs-others : (most many l word : ℕ) (e : Ends) → AreCounted most e.other → AreCounted most (downs many l word e).other
 downs-others most zero l word e all = all
@@ -199,11 +166,11 @@ downs-others most (suc many) l word e all = downs-others most many (l + 1) word 
 pub reboots-counted : (word : ℕ) (e : Ends) → AreCounted 0 (reboots word e).own
 unfolding reboots
 reboots-counted word e =
-    let anew = map (λ (k : Link). link_ready k.tables) e.own.links in
-    downs-others 0 (length e.other.links) 1 word (record { own = cleared e.other; other = party_begun anew }) (begun-counted anew)
+    let anew = station_anew e.own.station in
+    downs-others 0 (length e.other.station.links) 1 word (record { own = cleared e.other; other = party_begun anew }) (begun-counted anew)
 
 -- what was heard counts no longer, and what was sent counts on
-cleared-each : (most : ℕ) (gss : List Ledgers) → AllByRecursion (λ gs. IsCounted most gs) gss → AllByRecursion (λ gs. IsCounted most gs) (map unheard gss)
+cleared-each : (most : ℕ) (gss : List Ledgers) → AllCounted most gss → AllCounted most (map unheard gss)
 cleared-each most [] all = tt
 cleared-each most (gs ∷ gss) all =
     ((λ p. let one = all.0 p in let same = of-ledgers (λ p. record (ledger_at gs p) { got = 0 }) p in omega (arith, one, ap (λ (g : Ledger). g.n) same)), cleared-each most gss all.1)
@@ -223,28 +190,15 @@ downs-next all i word e new whole less is left =
     ∙ ap (λ n. downs n (1 + i) word e) (sym many)
     ∙ left
 
-not-same : (a b : ℕ) → a ≤ b → a ≢ b → a + 1 ≤ b
-not-same zero zero less other = absurd (other refl)
-not-same zero (suc b) less other = omega arith
-not-same (suc a) zero less other = absurd (omega arith)
-not-same (suc a) (suc b) less other = omega (arith, not-same a b (omega arith) (λ same. other (ap suc same)))
-
--- what is so of the first lines is so of one more
-pub short-next : (i word m : ℕ) (start now : List Link) (k : Link) → AreShort (on_link LineDown (i + 1) now word).out.entries → ((n : ℕ) → i < n → slice_get now (n - 1) ≡ slice_get start (n - 1)) →
-    ((n : ℕ) (j : Link) → 1 ≤ n → n ≤ i → slice_get start (n - 1) ≡ Some j → AreShort (link_done LineDown n j word).out) →
-    1 ≤ m → m ≤ i + 1 → slice_get start (m - 1) ≡ Some k → AreShort (link_done LineDown m k word).out
-short-next i word m start now k one rest all low high there = by (same-or m (i + 1))
-  where
-    by : (m ≡ i + 1) ⊎ (m ≢ i + 1) → AreShort (link_done LineDown m k word).out
-    by (inr other) = all m k low (omega (arith, not-same m (i + 1) high other)) there
-    by (inl same) =
-        let here : slice_get now (i + 1 - 1) ≡ Some k = rest (i + 1) (omega arith) ∙ ap (λ n. slice_get start (n - 1)) (sym same) ∙ there in
-        subst (λ n. AreShort (link_done LineDown n k word).out) (sym same) (subst (λ es. AreShort es) (entries-of LineDown (i + 1) word now k here) one)
-
-pub rest-next : (i word m : ℕ) (start : List Link) (e new : Ends) → new ≡ happens LineDown (i + 1) word e → ((n : ℕ) → i < n → slice_get e.own.links (n - 1) ≡ slice_get start (n - 1)) →
-    i + 1 < m → slice_get new.own.links (m - 1) ≡ slice_get start (m - 1)
+-- the station that the line goes down at
+pub short-next : (all i word : ℕ) (st : Station) (e new : Ends) → i < all → new ≡ happens LineDown (i + 1) word e → AreShort (on_link LineDown (i + 1) e.own.station word).out.entries →
+    (AreShortDowns word (all - i) (1 + i) e.own.station → AreShortDowns word all 1 st) → AreShortDowns word (all - (i + 1)) (1 + (i + 1)) new.own.station → AreShortDowns word all 1 st
 unfolding happens
-rest-next i word m start e new is rest beyond =
-    ap (λ (e : Ends). slice_get e.own.links (m - 1)) is
-    ∙ other-links LineDown (i + 1) m word e.own.links (omega (arith, beyond)) (λ same. absurd (omega (arith, same, beyond)))
-    ∙ rest m (omega (arith, beyond))
+short-next all i word st e new less is one before rest =
+    let many : suc (all - (i + 1)) ≡ all - i = omega (arith, less) in
+    let number : i + 1 ≡ 1 + i = omega arith in
+    let next : 1 + (i + 1) ≡ i + 1 + 1 = omega arith in
+    let after : AreShortDowns word (all - (i + 1)) (i + 1 + 1) (on_link LineDown (i + 1) e.own.station word).station =
+    subst (λ (e : Ends). AreShortDowns word (all - (i + 1)) (i + 1 + 1) e.own.station) is (subst (λ l. AreShortDowns word (all - (i + 1)) l new.own.station) next rest) in
+    let both : AreShortDowns word (suc (all - (i + 1))) (i + 1) e.own.station = (one, after) in
+    before (subst (λ n. AreShortDowns word n (1 + i) e.own.station) many (subst (λ l. AreShortDowns word (suc (all - (i + 1))) l e.own.station) number both))

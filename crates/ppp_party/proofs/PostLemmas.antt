@@ -8,7 +8,7 @@ use Rattle.ppp_packet.specs.declared.proto.Proto.{Proto}
 use Rattle.ppp_packet.specs.declared.proto.Proto.TheVariants.{Lcp, Ip, Ipv6, Osi, Mpls, Bacp}
 use Rattle.ppp_auto.specs.Packet.{Packet, packet_of}
 use Rattle.ppp_duet.specs.Duet as duet
-use Rattle.ppp_duet.specs.Duet.{Duet, End, Event, Marked, Setup, at_first, run, without}
+use Rattle.ppp_duet.specs.Duet.{End, Event, Marked, Setup, at_first, run, without}
 use Rattle.ppp_frame.specs.Header.{Read}
 use Rattle.ppp_station.specs.Orders.{is_same, packet_if, packets_of, read_in}
 use Rattle.ppp_station.specs.StationOut.{Entry, Push, Got, Hang}
@@ -145,6 +145,14 @@ queued-leads sa sb a b to_a p queue sent =
     sym (only-append p queue sent) ∙ ap (only p) (sym (take-append-drop room all)) ∙ only-append p (take room all) (drop room all) in
     let losses = tail-lost sa sb a b to_a (only p (take room all)) (only p (drop room all)) in
     record { events = losses.events; none = losses.none; leads = ap (λ ms. run sa sb losses.events (record { a = a; b = b; to_a = to_a; to_b = ms })) parts ∙ losses.leads }
+
+nil-front : {X : Type 0} (xs ys : List X) → xs ++ ys ≡ [] → xs ≡ []
+nil-front [] ys e = refl
+nil-front (x ∷ xs) ys e = absurd (cc)
+
+pub none-only : (p : Proto) (queue : List Frame) (n : ℕ) → only p queue ≡ [] → only p (take n queue) ≡ []
+none-only p queue n none =
+    nil-front (only p (take n queue)) (only p (drop n queue)) (sym (only-append p (take n queue) (drop n queue)) ∙ ap (only p) (take-append-drop n queue) ∙ none)
 
 -- ---- link by link
 

@@ -1,46 +1,45 @@
 -- An end that begins anew, as the two ends of each protocol see it.
-use Rattle.std.proofs.Common.{◌≡◌, ◌≢◌, ℕ, zero, suc, ◌+◌, ◌-◌, ◌<◌, ◌≤◌, Bool, true, false, if◌then◌else◌, List, [], ◌∷◌, ◌++◌, length, map, refl, sym, ap, subst, ◌∙◌, append-nil, inl, inr, length-take, take, drop, take-append-drop, arith}
-use Rattle.std.specs.Prelude.{◌⊎◌, ◌&&◌, not, Option, Some, None, option_map, slice_get}
+use Rattle.std.proofs.Common.{◌≡◌, ◌≢◌, ℕ, zero, suc, ◌+◌, ◌-◌, ◌<◌, ◌≤◌, Bool, true, false, if◌then◌else◌, List, [], ◌∷◌, ◌++◌, length, map, refl, sym, ap, subst, ◌∙◌, append-nil, append_assoc, inl, inr, arith}
+use Rattle.std.specs.Prelude.{⊤, ◌⊎◌, ◌==◌, ◌&&◌, Option, Some, None, option_map, slice_get}
+use Rattle.std.specs.List.{AllByRecursion}
+use Rattle.std.proofs.lemmas.Option.{slice_get-map, slice_get_within}
 use Rattle.ppp_auto.specs.Auto.{Auto, begun, is_off, is_opened}
 use Rattle.ppp_auto.specs.Automaton.{after, command, does_row, effects, entries_of}
 use Rattle.ppp_auto.specs.EventTable.{cell_of}
 use Rattle.ppp_auto.specs.OptionTable.{Table}
 use Rattle.ppp_auto.specs.Taken.{Taken, input_of, taken_as}
-use Rattle.ppp_auto.specs.declared.auto_event.AutoEvent.TheVariants.{AdminOpen, Down}
+use Rattle.ppp_auto.specs.declared.auto_event.AutoEvent.TheVariants.{Up, Down, AdminOpen, AdminClose, Timeout, RejectedWell, RejectedBadly}
 use Rattle.ppp_auto.specs.declared.auto_state.AutoState.{AutoState}
 use Rattle.ppp_auto.specs.declared.auto_state.AutoState.TheVariants.{Initial, Starting, Closed, Stopped, Closing, Stopping, ReqSent, AckRcvd, AckSent, Opened}
 use Rattle.ppp_auto.specs.declared.input.Input.TheVariants as on
-use Rattle.ppp_packet.specs.declared.proto.Proto.{Proto}
-use Rattle.ppp_packet.specs.declared.proto.Proto.TheVariants.{Lcp, Ip, Ipv6, Osi, Mpls, Bacp}
-use Rattle.ppp_frame.specs.declared.form.Form.{Form}
-use Rattle.ppp_link.specs.Automata.{auto_at, automata_begun, begun_if, cap_of, with_cap}
-use Rattle.ppp_link.specs.Link.{Link}
-use Rattle.ppp_link.specs.LinkTables.{LinkTables, bacp_table, ip_table, ipv6_table, mpls_table, osi_table, table_if, table_of}
-use Rattle.ppp_link.specs.Steps.{Event as Commanded, begins, does, told_all, told_by}
-use Rattle.ppp_link.specs.Steps as link
-use Rattle.ppp_station.specs.Orders.{Commands, SetsCap, is_net, obeys_all, of_link, of_run, orders, packets_in}
-use Rattle.ppp_station.specs.Phases.{IsPhased, IsUpWhere}
-use Rattle.ppp_station.specs.Steps.{LineDown, link_does, link_done}
-use Rattle.ppp_station.proofs.PhaseLemmas.{ready-phased}
-use Rattle.ppp_station.proofs.SignalLemmas.{all_caused, uncaused}
-use Rattle.ppp_station.specs.Station.{link_ready, on_link, opens_all}
-use Rattle.ppp_party.specs.Frame.{Frame, marked_frames, noted_frames, only, packets_for, seen}
 use Rattle.ppp_duet.specs.Duet as duet
 use Rattle.ppp_duet.specs.Duet.{Did, Duet, End, Event, Marked, Setup, at_first, run}
+use Rattle.ppp_packet.specs.declared.proto.Proto.{Proto}
+use Rattle.ppp_packet.specs.declared.proto.Proto.TheVariants.{Lcp, Ip, Ipv6, Osi, Mpls, Bacp}
+use Rattle.ppp_link.specs.Automata.{auto_at, automata_begun, begun_if, with_cap}
+use Rattle.ppp_link.specs.Link.{Link}
+use Rattle.ppp_link.specs.LinkTables.{LinkTables, bacp_table, ip_table, ipv6_table, mpls_table, osi_table, table_if, table_of}
+use Rattle.ppp_link.specs.Steps.{does, run_by}
+use Rattle.ppp_station.specs.Control.{Run}
+use Rattle.ppp_station.specs.Moves.{Moves, goes_with, of_own, of_run, of_runs, orders_at, runs_of}
+use Rattle.ppp_station.specs.Orders.{Obeyed, Order, Commands, SetsCap, Hears, RejectsProtocol, auto_by, is_same, obeys, obeys_all, of_link, packets_in}
+use Rattle.ppp_station.specs.Phases.{IsStation, IsUpWhere}
+use Rattle.ppp_station.specs.Station.{Station, IsBegun, IsReady, link_ready, on_link, opens_all, station_anew}
+use Rattle.ppp_station.specs.StationOut.{AreShort, Entry}
+use Rattle.ppp_station.specs.Steps.{LineDown}
+use Rattle.ppp_station.proofs.MovesLemmas.{counts, moves-at}
+use Rattle.ppp_station.proofs.StationPhaseLemmas.{begun-anew, begun-station, kept-station, off-station}
+use Rattle.ppp_party.specs.Downs.{AllShortDowns, AreShortDowns}
 use Rattle.ppp_party.specs.Events.{DeliversFirst, AreCaused, Leads, Makes}
+use Rattle.ppp_party.specs.Frame.{Frame, only}
 use Rattle.ppp_party.specs.Ledger.{Ledger, Ledgers, IsLedgerOf, end_of, first_id, ledger_at, ledger_begun, ledgers_begun, noted_all, stamped}
-use Rattle.ppp_party.specs.Party.{Ends, downs, happens, cleared, ends_begun, party_begun, posted, pushes_on, queued, reboots, room, turned, unheard}
-use Rattle.ppp_party.specs.Seat.{Anew, IsEnd, IsSettled, IsSpoken, IsWell, Seat, rebooted, SeatAt, seat_duet, seat_happens}
-use Rattle.ppp_party.proofs.DownLemmas.{down-short}
+use Rattle.ppp_party.specs.Party.{Ends, cleared, downs, ends_begun, happens, party_begun, posted, pushes_on, reboots, turned, unheard}
+use Rattle.ppp_party.specs.Seat.{Anew, IsEnd, IsSeated, IsSettled, IsSpoken, IsWell, Seat, SeatAt, rebooted, seat_duet, seat_posted}
 use Rattle.ppp_party.proofs.LedgerLemmas.{commanded_kept, commanded_seen, packets_of, proper_command, read_all, sent_in}
-use Rattle.ppp_party.proofs.OrderLemmas.{at_own, duet_with, joined, orders-run}
-use Rattle.ppp_party.proofs.PostLemmas.{marked-frames, noted-frames}
-use Rattle.ppp_party.proofs.StepLemmas.{is-done}
-use Rattle.ppp_station.proofs.WovenLemmas.{done-tables}
-use Rattle.std.proofs.lemmas.Grind.{flat_map-append}
-use Rattle.ppp_station.specs.StationOut.{AreShort}
-use Rattle.std.proofs.lemmas.Option.{slice_get-map, slice_get_within}
-use Rattle.ppp_party.proofs.SeatLemmas.{happens-well, posted-others, posted-own, same-or}
+use Rattle.ppp_party.proofs.ListLemmas.{all-at, there-is}
+use Rattle.ppp_party.proofs.OrderLemmas.{BringsNone, duet_with, joined, orders-run}
+use Rattle.ppp_party.proofs.SeatLemmas.{happens-settled, posted-at, same-or, well-posted}
+use Rattle.ppp_party.proofs.StepLemmas.{None_in, goes-out, is-done, none-append, own-here, own-other}
 
 -- ---- the row Down
 
@@ -86,103 +85,288 @@ capped-down : (t : Table) (a : Auto) (cap word : ℕ) → (command t (with_cap c
 unfolding does_row
 capped-down t a cap word = refl
 
--- LCP tells Down by it exactly where it was Opened
-caused-by : (p : Proto) (form : Form) (t : Table) (a : Auto) (word : ℕ) (s : AutoState) → a.state ≡ s →
-    all_caused p (told_all form Lcp (entries_of (command t a Down word))) ≡ (if is_opened s then of_run p Down else [])
+-- it sends no octets either
+silent-by : (t : Table) (a : Auto) (word : ℕ) (s : AutoState) → a.state ≡ s → packets_in (entries_of (command t a Down word)) ≡ []
 unfolding does_row
-caused-by p form t a word Initial e = rw e refl
-caused-by p form t a word Starting e = rw e refl
-caused-by p form t a word Closed e = rw e refl
-caused-by p form t a word Stopped e = rw e refl
-caused-by p form t a word Closing e = rw e refl
-caused-by p form t a word Stopping e = rw e refl
-caused-by p form t a word ReqSent e = rw e refl
-caused-by p form t a word AckRcvd e = rw e refl
-caused-by p form t a word AckSent e = rw e refl
-caused-by p form t a word Opened e = rw e (append-nil (of_run p Down))
+silent-by t a word Initial e = rw e refl
+silent-by t a word Starting e = rw e refl
+silent-by t a word Closed e = rw e refl
+silent-by t a word Stopped e = rw e refl
+silent-by t a word Closing e = rw e refl
+silent-by t a word Stopping e = rw e refl
+silent-by t a word ReqSent e = rw e refl
+silent-by t a word AckRcvd e = rw e refl
+silent-by t a word AckSent e = rw e refl
+silent-by t a word Opened e = rw e refl
 
-caused-down : (p : Proto) (k : Link) (word : ℕ) → all_caused p (link_does LineDown k word).out ≡ (if is_opened k.automata.lcp.state then of_run p Down else [])
-unfolding does
-caused-down p k word = caused-by p _ (table_of k.tables Lcp) k.automata.lcp word k.automata.lcp.state refl
+down-silent : (t : Table) (a : Auto) (word : ℕ) → packets_in (entries_of (command t a Down word)) ≡ []
+down-silent t a word = silent-by t a word a.state refl
 
--- ---- what the other end comes to
+-- and it leads to Initial or Starting
+down-by : (t : Table) (a : Auto) (word : ℕ) (s : AutoState) → a.state ≡ s → is_off (command t a Down word).auto.state ≡ true
+unfolding does_row
+down-by t a word Initial e = rw e refl
+down-by t a word Starting e = rw e refl
+down-by t a word Closed e = rw e refl
+down-by t a word Stopped e = rw e refl
+down-by t a word Closing e = rw e refl
+down-by t a word Stopping e = rw e refl
+down-by t a word ReqSent e = rw e refl
+down-by t a word AckRcvd e = rw e refl
+down-by t a word AckSent e = rw e refl
+down-by t a word Opened e = rw e refl
 
--- What Down and the cap behind it make of each automaton of a link: that is all that its line's going down does.
-pub record GoesDown (p : Proto) (t : Table) (k : Link) (word : ℕ) (b : Auto) : Type 0 where
-  pub auto : (obeys_all t word (orders p LineDown k word) b).auto ≡ with_cap (cap_of (link.after k.tables Lcp (Commanded Down) word k.automata).lcp) (command t b Down word).auto
-  pub silent : read_all (obeys_all t word (orders p LineDown k word) b).sent ≡ []
+down-off : (t : Table) (a : Auto) (word : ℕ) → is_off (command t a Down word).auto.state ≡ true
+down-off t a word = down-by t a word a.state refl
 
-none-sent : (t : Table) (b : Auto) (word : ℕ) → read_all (packets_in (entries_of (command t b Down word)) ++ []) ≡ []
-none-sent t b word = ap read_all (append-nil (packets_in (entries_of (command t b Down word)))) ∙ down-sends-none t b word
+-- Up does nothing to one that is beyond them
+record Stays (t : Table) (a : Auto) (word : ℕ) : Type 0 where
+  auto : (command t a Up word).auto ≡ a
+  silent : packets_in (entries_of (command t a Up word)) ≡ []
 
--- LCP itself
-lcp-down : (t : Table) (k : Link) (word : ℕ) (b : Auto) → GoesDown Lcp t k word b
-unfolding orders
-lcp-down t k word b =
-    let cap = cap_of (link.after k.tables Lcp (Commanded Down) word k.automata).lcp in
-    let none : orders Lcp LineDown k word ≡ Commands Down ∷ SetsCap cap ∷ [] = ap (λ more. of_link Lcp LineDown k word ++ more) (uncaused Lcp (link_does LineDown k word).out refl) in
+up-by : (t : Table) (a : Auto) (word : ℕ) (s : AutoState) → a.state ≡ s → is_off s ≡ false → Stays t a word
+unfolding does_row
+up-by t a word Initial e on = absurd (cc)
+up-by t a word Starting e on = absurd (cc)
+up-by t a word Closed e on = record { auto = rw e refl; silent = rw e refl }
+up-by t a word Stopped e on = record { auto = rw e refl; silent = rw e refl }
+up-by t a word Closing e on = record { auto = rw e refl; silent = rw e refl }
+up-by t a word Stopping e on = record { auto = rw e refl; silent = rw e refl }
+up-by t a word ReqSent e on = record { auto = rw e refl; silent = rw e refl }
+up-by t a word AckRcvd e on = record { auto = rw e refl; silent = rw e refl }
+up-by t a word AckSent e on = record { auto = rw e refl; silent = rw e refl }
+up-by t a word Opened e on = record { auto = rw e refl; silent = rw e refl }
+
+up-on : (t : Table) (a : Auto) (word : ℕ) → is_off a.state ≡ false → Stays t a word
+up-on t a word on = up-by t a word a.state refl on
+
+-- ---- an automaton that is to go Down, and one that did
+
+-- The two ends' machine has the other end see its line go down at once. At the other end Down comes somewhere among what its
+-- lines that go down cause, or never where the automaton is off. So the machine's automaton is that of the end, or what Down
+-- makes of that.
+abbrev Behind : Table → ℕ → Auto → Auto → Type 0
+Behind t word d w = (d ≡ w) ⊎ ((is_off w.state ≡ false) × (d ≡ (command t w Down word).auto))
+
+behind-first : (t : Table) (word : ℕ) (w : Auto) → Behind t word (command t w Down word).auto w
+behind-first t word w = by (is_off w.state) refl
+  where
+    by : (off : Bool) → is_off w.state ≡ off → Behind t word (command t w Down word).auto w
+    by true off = inl (off-down t w word off)
+    by false on = inr (on, refl)
+
+caught-up : (t : Table) (word : ℕ) (d w : Auto) → Behind t word d w → is_off w.state ≡ true → d ≡ w
+caught-up t word d w (inl same) off = same
+caught-up t word d w (inr (on, is)) off = let both : true ≡ false = sym off ∙ on in absurd (cc)
+
+-- what a line that goes down is to an automaton: it goes Up or Down, or its cap is set
+abbrev IsRun : Order → Type 0
+IsRun (Commands Up) = ⊤
+IsRun (Commands Down) = ⊤
+IsRun (SetsCap cap) = ⊤
+IsRun order = ⊥
+
+abbrev AreRuns : List Order → Type 0
+AreRuns os = AllByRecursion IsRun os
+
+run-none : (o : Order) → IsRun o → BringsNone o
+run-none (Commands event) run = tt
+run-none (SetsCap cap) run = tt
+run-none (Hears octets) run = absurd run
+run-none (RejectsProtocol packet) run = absurd run
+
+runs-append : (os more : List Order) → AreRuns os → AreRuns more → AreRuns (os ++ more)
+runs-append [] more first rest = rest
+runs-append (o ∷ os) more first rest = (first.0, runs-append os more first.1 rest)
+
+command-runs : (b on : Bool) → AreRuns (if b then Commands (run_by on) ∷ [] else [])
+command-runs true true = (tt, tt)
+command-runs true false = (tt, tt)
+command-runs false on = tt
+
+all-runs : (m : ℕ) (p : Proto) (rs : List Run) → AreRuns (of_runs m p rs)
+all-runs m p [] = tt
+all-runs m p (r ∷ rs) = runs-append (of_run m p r) (of_runs m p rs) (command-runs ((r.link == m) && goes_with p r.bacp) r.on) (all-runs m p rs)
+
+own-runs : (p : Proto) (k : Link) (word : ℕ) (own : Bool) → AreRuns (if own then of_link p LineDown k word else [])
+own-runs p k word true = runs-append (if is_same p Lcp then Commands Down ∷ [] else []) _ (command-runs (is_same p Lcp) false) (tt, tt)
+own-runs p k word false = tt
+
+down-runs : (l m : ℕ) (p : Proto) (rs : List Run) (k : Link) (word : ℕ) → AreRuns (orders_at l m p LineDown rs k word)
+down-runs l m p rs k word = runs-append (of_own l m p LineDown k word) (of_runs m p rs) (own-runs p k word (l == m)) (all-runs m p rs)
+
+-- the machine's automaton follows by orders of its own, and sends the same
+record Follows (t : Table) (word : ℕ) (d : Auto) (did : Obeyed) : Type 0 where
+  orders : List Order
+  none : None_in orders
+  sent : (obeys_all t word orders d).sent ≡ did.sent
+  behind : Behind t word (obeys_all t word orders d).auto did.auto
+
+follows-one : (t : Table) (word : ℕ) (o : Order) (d w : Auto) → IsRun o → Behind t word d w → Follows t word d (obeys t word o w)
+follows-one t word o d w run (inl same) = record {
+  orders = o ∷ [];
+  none = (run-none o run, tt);
+  sent = append-nil (obeys t word o d).sent ∙ ap (λ x. (obeys t word o x).sent) same;
+  behind = inl (ap (λ x. (obeys t word o x).auto) same);
+}
+follows-one t word (Commands Up) d w run (inr (on, is)) =
+    let up = up-on t w word on in
+    record { orders = []; none = tt; sent = sym up.silent; behind = subst (Behind t word d) (sym up.auto) (inr (on, is)) }
+follows-one t word (Commands Down) d w run (inr (on, is)) = record { orders = []; none = tt; sent = sym (down-silent t w word); behind = inl is }
+follows-one t word (Commands AdminOpen) d w run (inr behind) = absurd run
+follows-one t word (Commands AdminClose) d w run (inr behind) = absurd run
+follows-one t word (Commands Timeout) d w run (inr behind) = absurd run
+follows-one t word (Commands RejectedWell) d w run (inr behind) = absurd run
+follows-one t word (Commands RejectedBadly) d w run (inr behind) = absurd run
+follows-one t word (SetsCap cap) d w run (inr (on, is)) =
+    record { orders = SetsCap cap ∷ []; none = (tt, tt); sent = refl; behind = inr (on, ap (with_cap cap) is ∙ sym (capped-down t w cap word)) }
+follows-one t word (Hears octets) d w run (inr behind) = absurd run
+follows-one t word (RejectsProtocol packet) d w run (inr behind) = absurd run
+
+-- orders, one behind the other
+more-auto : (t : Table) (word : ℕ) (os more : List Order) (a : Auto) → (obeys_all t word (os ++ more) a).auto ≡ (obeys_all t word more (obeys_all t word os a).auto).auto
+more-auto t word [] more a = refl
+more-auto t word (o ∷ os) more a = more-auto t word os more (obeys t word o a).auto
+
+more-sent : (t : Table) (word : ℕ) (os more : List Order) (a : Auto) →
+    (obeys_all t word (os ++ more) a).sent ≡ (obeys_all t word os a).sent ++ (obeys_all t word more (obeys_all t word os a).auto).sent
+more-sent t word [] more a = refl
+more-sent t word (o ∷ os) more a =
+    let first = obeys t word o a in
+    ap (λ xs. first.sent ++ xs) (more-sent t word os more first.auto)
+    ∙ sym (append_assoc first.sent (obeys_all t word os first.auto).sent (obeys_all t word more (obeys_all t word os first.auto).auto).sent)
+
+follows-all : (t : Table) (word : ℕ) (os : List Order) (d w : Auto) → AreRuns os → Behind t word d w → Follows t word d (obeys_all t word os w)
+follows-all t word [] d w runs behind = record { orders = []; none = tt; sent = refl; behind = behind }
+follows-all t word (o ∷ os) d w runs behind =
+    let one = follows-one t word o d w runs.0 behind in
+    let first = obeys t word o w in
+    let mid = obeys_all t word one.orders d in
+    let more = follows-all t word os mid.auto first.auto runs.1 one.behind in
     record {
-      auto = ap (λ os. (obeys_all t word os b).auto) none;
-      silent = ap (λ os. read_all (obeys_all t word os b).sent) none ∙ none-sent t b word;
+      orders = one.orders ++ more.orders;
+      none = none-append one.orders more.orders one.none more.none;
+      sent = more-sent t word one.orders more.orders d ∙ (λ i. one.sent i ++ more.sent i);
+      behind = subst (λ x. Behind t word x (obeys_all t word os first.auto).auto) (sym (more-auto t word one.orders more.orders d)) more.behind;
     }
 
--- Another protocol goes Down where LCP was Opened and it goes with LCP, and is off already where not.
-net-by : (p : Proto) (t : Table) (k : Link) (word : ℕ) (b : Auto) (cap : ℕ) (net opened : Bool) → is_off b.state ≡ not (net && opened) →
-    let os = SetsCap cap ∷ (if opened then (if net then Commands Down ∷ [] else []) else []) in
-    ((obeys_all t word os b).auto ≡ with_cap cap (command t b Down word).auto) × (read_all (obeys_all t word os b).sent ≡ [])
-net-by p t k word b cap true true off = (capped-down t b cap word, none-sent t (with_cap cap b) word)
-net-by p t k word b cap false true off = (ap (with_cap cap) (sym (off-down t b word off)), refl)
-net-by p t k word b cap true false off = (ap (with_cap cap) (sym (off-down t b word off)), refl)
-net-by p t k word b cap false false off = (ap (with_cap cap) (sym (off-down t b word off)), refl)
+-- ---- LCP of a link whose line went down
 
-net-down : (p : Proto) (t : Table) (k : Link) (word : ℕ) (b : Auto) → of_link p LineDown k word ≡ SetsCap (cap_of (link.after k.tables Lcp (Commanded Down) word k.automata).lcp) ∷ [] →
-    is_off b.state ≡ not (is_net p && is_opened k.automata.lcp.state) → GoesDown p t k word b
-unfolding orders
-net-down p t k word b own off =
-    let cap = cap_of (link.after k.tables Lcp (Commanded Down) word k.automata).lcp in
-    let did = net-by p t k word b cap (is_net p) (is_opened k.automata.lcp.state) off in
-    let all : orders p LineDown k word ≡ SetsCap cap ∷ (if is_opened k.automata.lcp.state then of_run p Down else []) = (λ i. own i ++ caused-down p k word i) in
+never-with : (b : Bool) → (b && false) ≡ false
+never-with true = refl
+never-with false = refl
+
+lcp-runs : (m : ℕ) (rs : List Run) → of_runs m Lcp rs ≡ []
+lcp-runs m [] = refl
+lcp-runs m (r ∷ rs) = (λ i. (if never-with (r.link == m) i then Commands (run_by r.on) ∷ [] else []) ++ lcp-runs m rs i)
+
+lcp-down : (m word : ℕ) (rs : List Run) (k now : Link) (out : List Entry) → Moves m m LineDown rs word k now out → is_off now.automata.lcp.state ≡ true
+lcp-down m word rs k now out moves =
+    let t = table_of k.tables Lcp in
+    let a = k.automata.lcp in
+    let os : orders_at m m Lcp LineDown rs k word ≡ of_link Lcp LineDown k word = (λ i. own-here m Lcp LineDown k word i ++ lcp-runs m rs i) in
+    let both : Some now.automata.lcp ≡ Some (obeys_all t word (of_link Lcp LineDown k word) a).auto = moves.automata Lcp ∙ ap (λ os. auto_by k.tables Lcp word os (Some a)) os in
+    let same : now.automata.lcp ≡ (obeys_all t word (of_link Lcp LineDown k word) a).auto = cc in
+    ap (λ (a : Auto). is_off a.state) same ∙ down-off t a word
+
+-- it stays so while others go down
+lcp-stays : (l m word : ℕ) (rs : List Run) (k now : Link) (out : List Entry) → m ≢ l → Moves l m LineDown rs word k now out → now.automata.lcp ≡ k.automata.lcp
+lcp-stays l m word rs k now out other moves =
+    let os : orders_at l m Lcp LineDown rs k word ≡ [] = (λ i. own-other l m Lcp LineDown k word other i ++ lcp-runs m rs i) in
+    let both : Some now.automata.lcp ≡ Some k.automata.lcp = moves.automata Lcp ∙ ap (λ os. auto_by k.tables Lcp word os (Some k.automata.lcp)) os in
+    cc
+
+off-closed : (s : AutoState) → is_off s ≡ true → is_opened s ≡ false
+off-closed Initial off = refl
+off-closed Starting off = refl
+off-closed Closed off = refl
+off-closed Stopped off = refl
+off-closed Closing off = refl
+off-closed Stopping off = refl
+off-closed ReqSent off = refl
+off-closed AckRcvd off = refl
+off-closed AckSent off = refl
+off-closed Opened off = absurd (cc)
+
+-- no automaton is Up on such a link
+net-off : (st : Station) (i : ℕ) (k : Link) (p : Proto) (w : Auto) → IsStation st → slice_get st.links i ≡ Some k → p ≢ Lcp → auto_at k.automata p ≡ Some w → is_off k.automata.lcp.state ≡ true → is_off w.state ≡ true
+net-off st i k p w station at other is off = subst (IsUpWhere false) is (off-station st i k p station at other (off-closed k.automata.lcp.state off))
+
+all-off : (st : Station) (i : ℕ) (k : Link) (p : Proto) (w : Auto) → IsStation st → slice_get st.links i ≡ Some k → auto_at k.automata p ≡ Some w → is_off k.automata.lcp.state ≡ true → is_off w.state ≡ true
+all-off st i k Lcp w station at is off = let same : k.automata.lcp ≡ w = cc in subst (λ (a : Auto). is_off a.state ≡ true) same off
+all-off st i k Ip w station at is off = net-off st i k Ip w station at (λ same. cc) is off
+all-off st i k Ipv6 w station at is off = net-off st i k Ipv6 w station at (λ same. cc) is off
+all-off st i k Osi w station at is off = net-off st i k Osi w station at (λ same. cc) is off
+all-off st i k Mpls w station at is off = net-off st i k Mpls w station at (λ same. cc) is off
+all-off st i k Bacp w station at is off = net-off st i k Bacp w station at (λ same. cc) is off
+
+-- ---- the lines that go down, one after the other
+
+-- A link of the end while they do: its automaton, that of the two ends' machine, and a list of events that delivers nothing and
+-- leads the machine there; LCP is off once the link's own line has gone down.
+record Walk (sa sb : Setup) (p : Proto) (m l word : ℕ) (start : Duet) (b : End) (e : Ends) : Type 0 where
+  seat : Seat
+  auto : Auto
+  real : Auto
+  station : IsStation e.own.station
+  at : SeatAt m e seat
+  well : IsWell seat
+  empty : seat.incoming ≡ []
+  spoken : IsSpoken sa p seat.link.tables
+  is : auto_at seat.link.automata p ≡ Some real
+  behind : Behind sa.table word auto real
+  kept : IsLedgerOf auto (ledger_at seat.ledgers p)
+  leads : Leads sa sb start (seat_duet p auto seat b)
+  off : m < l → is_off seat.link.automata.lcp.state ≡ true
+
+below : (m l : ℕ) → m < l + 1 → m ≢ l → m < l
+below m l less other = grind arith
+
+off-next : (l m word : ℕ) (rs : List Run) (k now : Link) (out : List Entry) → Moves l m LineDown rs word k now out → (m < l → is_off k.automata.lcp.state ≡ true) → m < l + 1 → (m ≡ l) ⊎ (m ≢ l) → is_off now.automata.lcp.state ≡ true
+off-next l m word rs k now out moves off less (inl same) = lcp-down m word rs k now out (subst (λ l. Moves l m LineDown rs word k now out) (sym same) moves)
+off-next l m word rs k now out moves off less (inr other) = ap (λ (a : Auto). is_off a.state) (lcp-stays l m word rs k now out other moves) ∙ off (below m l less other)
+
+walk-next : (sa sb : Setup) (p : Proto) (m l word : ℕ) (start : Duet) (b : End) (e : Ends) → 1 ≤ l → 1 ≤ m → l ≤ length e.own.station.links → AreShort (on_link LineDown l e.own.station word).out.entries →
+    Walk sa sb p m l word start b e → Walk sa sb p m (l + 1) word start b (happens LineDown l word e)
+unfolding happens
+walk-next sa sb p m l word start b e low least high short w =
+    let st = e.own.station in
+    let es = (on_link LineDown l st word).out.entries in
+    let rs = runs_of LineDown l st word in
+    let s = w.seat in
+    let link = there-is st.links l low high in
+    let to = moves-at LineDown l m word st link.0 s.link low least link.1 w.at.link short in
+    let os = orders_at l m p LineDown rs s.link word in
+    let done = is-done sa p LineDown l m word rs s.link to.link es w.real to.moves w.spoken.table w.is in
+    let follows = follows-all sa.table word os w.auto w.real (down-runs l m p rs s.link word) w.behind in
+    let did = obeys_all sa.table word follows.orders w.auto in
+    let obeys = orders-run sa sb w.auto (ledger_at s.ledgers p) 0 word b (only p s.incoming) (only p s.outgoing) follows.orders follows.none w.kept in
+    let out = goes-out sa sb p 0 s to.link (pushes_on m es) did.auto b (read_all did.sent) (done.sent ∙ ap read_all (sym follows.sent)) obeys.kept in
     record {
-      auto = ap (λ os. (obeys_all t word os b).auto) all ∙ did.0;
-      silent = ap (λ os. read_all (obeys_all t word os b).sent) all ∙ did.1;
+      seat = seat_posted 0 to.link (pushes_on m es) s;
+      auto = did.auto;
+      real = (obeys_all sa.table word os w.real).auto;
+      station = kept-station LineDown l word st link.0 low link.1 w.station;
+      at = posted-at 0 m (on_link LineDown l st word) e s to.link least to.at w.at;
+      well = well-posted LineDown l m word 0 st s to.link short (happens-settled LineDown l m word rs s.link to.link es to.moves tt w.well.settled) w.well.incoming w.well.outgoing;
+      empty = w.empty;
+      spoken = subst (IsSpoken sa p) (sym to.moves.tables) w.spoken;
+      is = done.auto;
+      behind = follows.behind;
+      kept = out.kept;
+      leads = joined sa sb _ _ _ w.leads (joined sa sb _ _ _ obeys.events out.leads);
+      off = λ less. off-next l m word rs s.link to.link es to.moves w.off less (same-or m l);
     }
 
-phased-off : (p : Proto) (k : Link) (b : Auto) → p ≢ Lcp → IsPhased k → auto_at k.automata p ≡ Some b → is_off b.state ≡ not (is_net p && is_opened k.automata.lcp.state)
-unfolding IsPhased
-phased-off p k b other phased is = subst (IsUpWhere (is_net p && is_opened k.automata.lcp.state)) is (phased p other)
-
-pub goes-down : (p : Proto) (t : Table) (k : Link) (word : ℕ) (b : Auto) → IsPhased k → auto_at k.automata p ≡ Some b → GoesDown p t k word b
-goes-down Lcp t k word b phased is = lcp-down t k word b
-goes-down Ip t k word b phased is = net-down Ip t k word b refl (phased-off Ip k b (λ same. cc) phased is)
-goes-down Ipv6 t k word b phased is = net-down Ipv6 t k word b refl (phased-off Ipv6 k b (λ same. cc) phased is)
-goes-down Osi t k word b phased is = net-down Osi t k word b refl (phased-off Osi k b (λ same. cc) phased is)
-goes-down Mpls t k word b phased is = net-down Mpls t k word b refl (phased-off Mpls k b (λ same. cc) phased is)
-goes-down Bacp t k word b phased is = net-down Bacp t k word b refl (phased-off Bacp k b (λ same. cc) phased is)
-
--- ---- the lines that go down, among all links
-
-downs-others : (n l word m : ℕ) (e : Ends) (s : Seat) → 1 ≤ m → m < l → length s.outgoing ≤ room → SeatAt m e s → SeatAt m (downs n l word e) s
+walk-all : (sa sb : Setup) (p : Proto) (n m l word : ℕ) (start : Duet) (b : End) (e : Ends) → 1 ≤ l → 1 ≤ m → l + n ≤ 1 + length e.own.station.links → AreShortDowns word n l e.own.station →
+    Walk sa sb p m l word start b e → Walk sa sb p m (l + n) word start b (downs n l word e)
 unfolding happens
-downs-others zero l word m e s low less few at = at
-downs-others (suc n) l word m e s low less few at =
-    downs-others n (l + 1) word m _ s low (omega arith) few (posted-others LineDown l m word 0 e s low (λ same. absurd (omega (arith, same, less))) few at)
-
-room-for : (queue sent : List Frame) → length (queued queue sent) ≤ room
-room-for queue sent = omega (arith, length-take room (queue ++ sent))
-
-one-more : (l m : ℕ) → l ≤ m → m ≢ l → l + 1 ≤ m
-one-more l m low other = grind arith
-
-pub downs-by : (n l word m : ℕ) (e : Ends) (s : Seat) → 1 ≤ l → l ≤ m → m < l + n → length s.outgoing ≤ room → SeatAt m e s → (m ≡ l) ⊎ (m ≢ l) → SeatAt m (downs n l word e) (seat_happens LineDown m word s)
-unfolding happens
-downs-by zero l word m e s least low high few at or = absurd (omega (arith, low, high))
-downs-by (suc n) l word m e s least low high few at (inl same) =
-    let here : SeatAt l e s = subst (λ m. SeatAt m e s) same at in
-    subst (λ m. SeatAt m (downs n (l + 1) word (posted 0 (on_link LineDown l e.own.links word) e)) (seat_happens LineDown m word s)) (sym same)
-    (downs-others n (l + 1) word l _ (seat_happens LineDown l word s) least (omega arith) (room-for s.outgoing _) (posted-own LineDown l word 0 e s least here))
-downs-by (suc n) l word m e s least low high few at (inr other) =
-    let next : l + 1 ≤ m = one-more l m low other in
-    downs-by n (l + 1) word m _ s (omega arith) next (omega (arith, high)) few (posted-others LineDown l m word 0 e s (omega (arith, least, low)) other few at) (same-or m (l + 1))
+walk-all sa sb p zero m l word start b e low least high short w = subst (λ x. Walk sa sb p m x word start b e) (omega arith) w
+walk-all sa sb p (suc n) m l word start b e low least high short w =
+    let next = happens LineDown l word e in
+    subst (λ x. Walk sa sb p m x word start b (downs n (l + 1) word next)) (omega arith)
+    (walk-all sa sb p n m (l + 1) word start b next (omega arith) least (omega (arith, high, counts LineDown l word e.own.station)) short.1
+    (walk-next sa sb p m l word start b e low least (omega (arith, high)) short.0 w))
 
 -- ---- an end as it begins
 
@@ -214,7 +398,7 @@ begun-auto t Bacp a is = begun-if bacp_table t.bacp a is
 
 ready-settled : (t : LinkTables) → IsSettled (link_ready t)
 unfolding opens_all
-ready-settled t = record { stands = refl; limit = refl; phased = ready-phased t }
+ready-settled t = record { stands = refl; limit = refl }
 
 pub ready-tables : (t : LinkTables) → (link_ready t).tables ≡ t
 unfolding opens_all
@@ -278,99 +462,32 @@ begun-at Osi = refl
 begun-at Mpls = refl
 begun-at Bacp = refl
 
-nil-front : {X : Type 0} (xs ys : List X) → xs ++ ys ≡ [] → xs ≡ []
-nil-front [] ys e = refl
-nil-front (x ∷ xs) ys e = absurd (cc)
-
-pub none-only : (p : Proto) (queue : List Frame) (n : ℕ) → only p queue ≡ [] → only p (take n queue) ≡ []
-none-only p queue n none =
-    nil-front (only p (take n queue)) (only p (drop n queue)) (sym (flat_map-append (seen p) (take n queue) (drop n queue)) ∙ ap (only p) (take-append-drop n queue) ∙ none)
-
--- the other end, whose line went down behind the loss of all that was under way
-abbrev pub silenced : Seat → Seat
-silenced o = record { link = o.link; ledgers = unheard o.ledgers; incoming = []; outgoing = [] }
-
-record WentDown (sb : Setup) (p : Proto) (m word : ℕ) (o : Seat) (b : Auto) : Type 0 where
-  auto : Auto
-  is : auto ≡ with_cap (cap_of (link.after o.link.tables Lcp (Commanded Down) word o.link.automata).lcp) (command sb.table b Down word).auto
-  end : IsEnd sb p (seat_happens LineDown m word (silenced o)) auto
-  ledger : ledger_at (seat_happens LineDown m word (silenced o)).ledgers p ≡ record (ledger_at o.ledgers p) { got = 0 }
-  quiet : only p (seat_happens LineDown m word (silenced o)).outgoing ≡ []
-
-went-down : (sb : Setup) (p : Proto) (m word : ℕ) (o : Seat) (b : Auto) → IsPhased o.link → AreShort (link_done LineDown m o.link word).out → IsEnd sb p o b → WentDown sb p m word o b
-went-down sb p m word o b phased short end =
-    let k = o.link in
-    let did = obeys_all sb.table word (orders p LineDown k word) b in
-    let down = goes-down p sb.table k word b phased end.auto in
-    let done = is-done sb p LineDown m word k b short end.spoken.table end.auto in
-    let frames = pushes_on m (link_done LineDown m k word).out in
-    let g = ledger_at o.ledgers p in
-    let silent : packets_for p frames ≡ [] = done.sent ∙ down.silent in
-    let ledger : ledger_at (noted_frames (unheard o.ledgers) frames) p ≡ record g { got = 0 } =
-    noted-frames (unheard o.ledgers) p frames ∙ ap (noted_all (ledger_at (unheard o.ledgers) p)) silent ∙ unheard-at o.ledgers p in
-    let sent = marked_frames (unheard o.ledgers) 0 frames in
-    let none : only p sent ≡ [] = marked-frames (unheard o.ledgers) p 0 frames ∙ ap (stamped (ledger_at (unheard o.ledgers) p) 0) silent in
-    let clear : IsLedgerOf b (record g { got = 0 }) = record { ids = end.kept.ids; last = end.kept.last } in
-    let acted : IsLedgerOf (command sb.table b Down word).auto (record g { got = 0 }) =
-    subst (λ ps. IsLedgerOf (command sb.table b Down word).auto (noted_all (record g { got = 0 }) ps)) (down-sends-none sb.table b word) (commanded_kept sb.table b (record g { got = 0 }) Down word clear) in
-    let cap = cap_of (link.after k.tables Lcp (Commanded Down) word k.automata).lcp in
-    let capped : IsLedgerOf (with_cap cap (command sb.table b Down word).auto) (record g { got = 0 }) = record { ids = acted.ids; last = acted.last } in
-    record {
-      auto = did.auto;
-      is = down.auto;
-      end = record {
-        spoken = subst (IsSpoken sb p) (sym (done-tables LineDown m word k)) end.spoken;
-        auto = done.auto;
-        kept = subst (λ x. IsLedgerOf x (ledger_at (noted_frames (unheard o.ledgers) frames) p)) (sym down.auto)
-            (subst (λ g. IsLedgerOf (with_cap cap (command sb.table b Down word).auto) g) (sym ledger) capped);
-      };
-      ledger = ledger;
-      quiet = none-only p ([] ++ sent) room none;
-    }
-
--- the machine's event, and the cap behind it
-restarted : (sa sb : Setup) (p : Proto) (m word : ℕ) (o : Seat) (a : End) (b : Auto) (to_a to_b : List Marked) → IsLedgerOf b (ledger_at o.ledgers p) → (w : WentDown sb p m word o b) →
-    Leads sa sb (rebooted sa sb word (record { a = a; b = end_of b (ledger_at o.ledgers p); to_a = to_a; to_b = to_b }))
-    (duet_with (begun sa.table sa.first) ledger_begun (end_of w.auto (record (ledger_at o.ledgers p) { got = 0 })) [] [])
-unfolding at_first
-restarted sa sb p m word o a b to_a to_b kept w =
-    let g = ledger_at o.ledgers p in
-    let clear : Ledger = record g { got = 0 } in
-    let acted = command sb.table b Down word in
-    let cap = cap_of (link.after o.link.tables Lcp (Commanded Down) word o.link.automata).lcp in
-    let down = ap (λ (d : Did). d.end) (commanded_seen sb b clear Down word (record { ids = kept.ids; last = kept.last })) ∙ ap (λ ps. end_of acted.auto (noted_all clear ps)) (down-sends-none sb.table b word) in
-    record {
-      events = record { side = duet.B; what = duet.SetsCap cap; word = word } ∷ [];
-      none = (tt, tt);
-      leads = ap (λ (e : End). duet_with (begun sa.table sa.first) ledger_begun (record e { auto = with_cap cap e.auto }) [] []) down
-          ∙ ap (λ x. duet_with (begun sa.table sa.first) ledger_begun (end_of x clear) [] []) (sym w.is);
-    }
-
--- ---- among all links
-
-pub downs-other : (n l word : ℕ) (e : Ends) → ((downs n l word e).other.links ≡ e.other.links) × ((downs n l word e).other.ledgers ≡ e.other.ledgers)
-unfolding happens
-downs-other zero l word e = (refl, refl)
-downs-other (suc n) l word e = downs-other n (l + 1) word (posted 0 (on_link LineDown l e.own.links word) e)
-
 pub mapped-there : {X Y : Type 0} (f : X → Y) (xs : List X) (i : ℕ) (x : X) → slice_get xs i ≡ Some x → slice_get (map f xs) i ≡ Some (f x)
 mapped-there f xs i x is = slice_get-map f xs i ∙ ap (option_map f) is
 
-pub silenced-at : (m : ℕ) (e : Ends) (s o : Seat) → SeatAt m e s → SeatAt m (turned e) o →
-    SeatAt m (record { own = cleared e.other; other = party_begun (map (λ k. link_ready k.tables) e.own.links) }) (silenced o)
+-- the other end, when all that was under way is lost
+abbrev pub silenced : Seat → Seat
+silenced o = record { link = o.link; ledgers = unheard o.ledgers; incoming = []; outgoing = [] }
+
+-- before its lines go down
+abbrev pub stilled : Ends → Ends
+stilled e = record { own = cleared e.other; other = party_begun (station_anew e.own.station) }
+
+pub silenced-at : (m : ℕ) (e : Ends) (s o : Seat) → SeatAt m e s → SeatAt m (turned e) o → SeatAt m (stilled e) (silenced o)
 silenced-at m e s o at_own at_other = record {
   link = at_other.link;
   ledgers = mapped-there unheard e.other.ledgers (m - 1) o.ledgers at_other.ledgers;
   incoming = mapped-there (λ queue. []) e.other.incoming (m - 1) o.incoming at_other.incoming;
-  outgoing = mapped-there (λ k. []) (map (λ k. link_ready k.tables) e.own.links) (m - 1) (link_ready s.link.tables) (mapped-there (λ k. link_ready k.tables) e.own.links (m - 1) s.link at_own.link);
+  outgoing = mapped-there (λ k. []) (station_anew e.own.station).links (m - 1) (link_ready s.link.tables) (mapped-there (λ k. link_ready k.tables) e.own.station.links (m - 1) s.link at_own.link);
 }
 
 -- a link as a station begins with it, with these frames under way to it
 abbrev pub seat_begun : LinkTables → List Frame → Seat
 seat_begun t incoming = record { link = link_ready t; ledgers = ledgers_begun; incoming = incoming; outgoing = [] }
 
-begun-end : (sa : Setup) (p : Proto) (t : LinkTables) (incoming : List Frame) → IsSpoken sa p t → IsEnd sa p (seat_begun t incoming) (opened_anew p sa.table (begun sa.table first_id))
-begun-end sa p t incoming spoken =
+begun-end : (sa : Setup) (p : Proto) (t : LinkTables) (incoming outgoing : List Frame) → IsSpoken sa p t →
+    IsEnd sa p (record { link = link_ready t; ledgers = ledgers_begun; incoming = incoming; outgoing = outgoing }) (opened_anew p sa.table (begun sa.table first_id))
+begun-end sa p t incoming outgoing spoken =
     let auto = opened_anew p sa.table (begun sa.table first_id) in
     let begun_is : spoken.auto ≡ begun (table_of t p) first_id = begun-auto t p spoken.auto spoken.there in
     let opened = begins-as sa sa p (end_of auto ledger_begun) [] [] spoken.first in
@@ -379,47 +496,6 @@ begun-end sa p t incoming spoken =
       auto = ready-auto t p ∙ ap (option_map (opened_anew p (table_of t p))) spoken.there ∙ ap (λ x. Some (opened_anew p (table_of t p) x)) begun_is
           ∙ ap (λ t. Some (opened_anew p t (begun t first_id))) (sym spoken.table);
       kept = subst (λ g. IsLedgerOf auto g) (sym (begun-at p)) opened.kept;
-    }
-
-pub reboots-came : (sa sb : Setup) (p : Proto) (m word : ℕ) (e : Ends) (s o : Seat) (a b : Auto) → 1 ≤ m → SeatAt m e s → IsEnd sa p s a → SeatAt m (turned e) o → IsSettled o.link → IsEnd sb p o b →
-    Anew sa sb p m (rebooted sa sb word (seat_duet p a s (end_of b (ledger_at o.ledgers p)))) (reboots word e)
-unfolding reboots
-reboots-came sa sb p m word e s o a b low own_at own_end other_at settled other_end =
-    let short = down-short m word o.link in
-    let n = length e.other.links in
-    let start : Ends = record { own = cleared e.other; other = party_begun (map (λ k. link_ready k.tables) e.own.links) } in
-    let t = s.link.tables in
-    let within = slice_get_within e.other.links (m - 1) o.link other_at.link in
-    let after = downs-by n 1 word m start (silenced o) (omega arith) low (omega (arith, within)) (omega arith) (silenced-at m e s o own_at other_at) (same-or m 1) in
-    let w = went-down sb p m word o b settled.phased short other_end in
-    let now = seat_happens LineDown m word (silenced o) in
-    let well = happens-well LineDown m word (silenced o) tt short (record { settled = settled; incoming = tt; outgoing = tt; few = omega arith }) in
-    let own : Seat = record { link = link_ready t; ledgers = ledgers_begun; incoming = now.outgoing; outgoing = [] } in
-    let same = downs-other n 1 word start in
-    let auto = opened_anew p sa.table (begun sa.table first_id) in
-    let opened = begins-as sa sb p (end_of w.auto (record (ledger_at o.ledgers p) { got = 0 })) [] [] own_end.spoken.first in
-    let all = joined sa sb _ _ _ (restarted sa sb p m word o (end_of a (ledger_at s.ledgers p)) b (only p s.incoming) (only p s.outgoing) other_end.kept w) opened.leads in
-    record {
-      own = own;
-      other = now;
-      own_auto = auto;
-      other_auto = w.auto;
-      own_seated = record {
-        at = record {
-          link = ap (λ ks. slice_get ks (m - 1)) same.0 ∙ mapped-there (λ k. link_ready k.tables) e.own.links (m - 1) s.link own_at.link;
-          ledgers = ap (λ gs. slice_get gs (m - 1)) same.1 ∙ mapped-there (λ k. ledgers_begun) (map (λ k. link_ready k.tables) e.own.links) (m - 1) (link_ready t) (mapped-there (λ k. link_ready k.tables) e.own.links (m - 1) s.link own_at.link);
-          incoming = after.outgoing;
-          outgoing = after.incoming;
-        };
-        well = record { settled = ready-settled t; incoming = well.outgoing; outgoing = tt; few = omega arith };
-        end = begun-end sa p t now.outgoing own_end.spoken;
-      };
-      other_seated = record { at = after; well = well; end = w.end };
-      leads = record {
-        events = all.events;
-        none = all.none;
-        leads = all.leads ∙ sym (λ i. duet_with auto (begun-at p i) (end_of w.auto (w.ledger i)) (w.quiet i) []);
-      };
     }
 
 -- ---- seen from the other end
@@ -460,22 +536,131 @@ turned-leads sa sb a b l = record { events = map flipped l.events; none = flip-n
 pub turned-makes : (sa sb : Setup) (a b : Duet) → Makes sa sb a b → Makes sb sa (duet.turned a) (duet.turned b)
 turned-makes sa sb a b l = record { events = map flipped l.events; first = flip-first l.events l.first; leads = sym (flip-run sa sb l.events a) ∙ ap duet.turned l.leads }
 
+-- ---- the end that begins anew, and the other
+
+-- what the two ends' machine makes of the other end
+module _ (sb : Setup) (g : Ledger) (b : Auto) (word : ℕ) (kept : IsLedgerOf b g) where
+  abbrev clear : Ledger
+  clear = record g { got = 0 }
+
+  clear-kept : IsLedgerOf b clear
+  clear-kept = record { ids = kept.ids; last = kept.last }
+
+  down-kept : IsLedgerOf (command sb.table b Down word).auto clear
+  down-kept =
+      subst (λ ps. IsLedgerOf (command sb.table b Down word).auto (noted_all clear ps)) (down-sends-none sb.table b word) (commanded_kept sb.table b clear Down word clear-kept)
+
+  rebooted-is : (sa : Setup) (a : End) (to_a to_b : List Marked) →
+      rebooted sa sb word (record { a = a; b = end_of b g; to_a = to_a; to_b = to_b }) ≡ record { a = duet.end_begun sa; b = end_of (command sb.table b Down word).auto clear; to_a = []; to_b = [] }
+  unfolding at_first
+  rebooted-is sa a to_a to_b =
+      let acted = command sb.table b Down word in
+      let down = ap (λ (d : Did). d.end) (commanded_seen sb b clear Down word clear-kept) ∙ ap (λ ps. end_of acted.auto (noted_all clear ps)) (down-sends-none sb.table b word) in
+      ap (λ (e : End). record { a = duet.end_begun sa; b = e; to_a = []; to_b = [] }) down
+
+-- the other end before its lines go down
+walk-first : (sa sb : Setup) (p : Proto) (m word : ℕ) (e : Ends) (s o : Seat) (b : Auto) → 1 ≤ m → SeatAt m e s → (is : IsSeated sb p m (turned e) o b) →
+    let down = (command sb.table b Down word).auto in
+    Walk sb sa p m 1 word (record { a = end_of down (record (ledger_at o.ledgers p) { got = 0 }); b = duet.end_begun sa; to_a = []; to_b = [] }) (duet.end_begun sa) (stilled e)
+walk-first sa sb p m word e s o b least own is =
+    let g = ledger_at o.ledgers p in
+    let down = (command sb.table b Down word).auto in
+    record {
+      seat = silenced o;
+      auto = down;
+      real = b;
+      station = is.station;
+      at = silenced-at m e s o own is.at;
+      well = record { settled = is.well.settled; incoming = tt; outgoing = tt; few = omega arith };
+      empty = refl;
+      spoken = is.end.spoken;
+      is = is.end.auto;
+      behind = behind-first sb.table word b;
+      kept = subst (λ g. IsLedgerOf down g) (sym (unheard-at o.ledgers p)) (down-kept sb g b word is.end.kept);
+      leads = record { events = []; none = tt; leads = sym (λ i. duet_with down (unheard-at o.ledgers p i) (duet.end_begun sa) [] []) };
+      off = λ less. absurd (omega (arith, less, least));
+    }
+
+-- the station and the ledgers of the end itself
+record StaysAnew (before after : Ends) : Type 0 where
+  station : after.other.station ≡ before.other.station
+  ledgers : after.other.ledgers ≡ before.other.ledgers
+
+downs-stay : (n l word : ℕ) (e : Ends) → StaysAnew e (downs n l word e)
+unfolding happens
+downs-stay zero l word e = record { station = refl; ledgers = refl }
+downs-stay (suc n) l word e =
+    let more = downs-stay n (l + 1) word (posted 0 (on_link LineDown l e.own.station word) e) in
+    record { station = more.station; ledgers = more.ledgers }
+
+pub reboots-came : (sa sb : Setup) (p : Proto) (m word : ℕ) (e : Ends) (s o : Seat) (a b : Auto) → 1 ≤ m → AllShortDowns word e.other.station →
+    IsSeated sa p m e s a → IsSeated sb p m (turned e) o b → Anew sa sb p m (rebooted sa sb word (seat_duet p a s (end_of b (ledger_at o.ledgers p)))) (reboots word e)
+unfolding reboots
+reboots-came sa sb p m word e s o a b least short own other =
+    let n = length e.other.station.links in
+    let t = s.link.tables in
+    let anew = station_anew e.own.station in
+    let within = slice_get_within e.other.station.links (m - 1) o.link other.at.link in
+    let w = walk-all sb sa p n m 1 word _ (duet.end_begun sa) (stilled e) (omega arith) least (omega arith) short (walk-first sa sb p m word e s o b least own.at other) in
+    let now = w.seat in
+    let off = all-off (downs n 1 word (stilled e)).own.station (m - 1) now.link p w.real w.station w.at.link w.is (w.off (omega (arith, within, least))) in
+    let same = caught-up sb.table word w.auto w.real w.behind off in
+    let back = sym same in
+    let stays = downs-stay n 1 word (stilled e) in
+    let auto = opened_anew p sa.table (begun sa.table first_id) in
+    let g = ledger_at now.ledgers p in
+    let opened = begins-as sa sb p (end_of w.auto g) (only p now.outgoing) (only p now.incoming) own.end.spoken.first in
+    let first = rebooted-is sb (ledger_at o.ledgers p) b word other.end.kept sa (end_of a (ledger_at s.ledgers p)) (only p s.incoming) (only p s.outgoing) in
+    let all = joined sa sb _ _ _ (turned-leads sb sa _ _ w.leads) opened.leads in
+    let there = mapped-there (λ k. link_ready k.tables) e.own.station.links (m - 1) s.link own.at.link in
+    record {
+      own = record { link = link_ready t; ledgers = ledgers_begun; incoming = now.outgoing; outgoing = now.incoming };
+      other = now;
+      own_auto = auto;
+      other_auto = w.real;
+      own_seated = record {
+        station = subst IsStation (sym stays.station) (begun-station anew (begun-anew e.own.station own.station));
+        at = record {
+          link = ap (λ (st : Station). slice_get st.links (m - 1)) stays.station ∙ there;
+          ledgers = ap (λ gs. slice_get gs (m - 1)) stays.ledgers ∙ mapped-there (λ k. ledgers_begun) anew.links (m - 1) (link_ready t) there;
+          incoming = w.at.outgoing;
+          outgoing = w.at.incoming;
+        };
+        well = record { settled = ready-settled t; incoming = w.well.outgoing; outgoing = w.well.incoming; few = omega (arith, ap length w.empty) };
+        end = begun-end sa p t now.outgoing now.incoming own.end.spoken;
+      };
+      other_seated = record {
+        station = w.station;
+        at = w.at;
+        well = w.well;
+        end = record { spoken = w.spoken; auto = w.is; kept = subst (λ a. IsLedgerOf a g) same w.kept };
+      };
+      leads = record {
+        events = all.events;
+        none = all.none;
+        leads = ap (run sa sb all.events) first ∙ all.leads ∙ sym (λ i. duet_with auto (begun-at p i) (end_of (back i) g) (only p now.outgoing) (only p now.incoming));
+      };
+    }
+
 -- ---- both ends as they begin
 
-pub seat-begun : (m : ℕ) (own other : List Link) (k j : Link) → slice_get own (m - 1) ≡ Some k → slice_get other (m - 1) ≡ Some j → k ≡ link_ready k.tables →
+pub begun-ready : (m : ℕ) (st : Station) (k : Link) → IsBegun st → slice_get st.links (m - 1) ≡ Some k → k ≡ link_ready k.tables
+begun-ready m st k begun is = all-at IsReady st.links (m - 1) k begun.ready is
+
+pub seat-begun : (m : ℕ) (own other : Station) (k j : Link) → slice_get own.links (m - 1) ≡ Some k → slice_get other.links (m - 1) ≡ Some j → k ≡ link_ready k.tables →
     SeatAt m (ends_begun own other) (seat_begun k.tables [])
 seat-begun m own other k j there here ready = record {
   link = there ∙ ap (λ k. Some k) ready;
-  ledgers = mapped-there (λ k. ledgers_begun) own (m - 1) k there;
-  incoming = mapped-there (λ k. []) own (m - 1) k there;
-  outgoing = mapped-there (λ k. []) other (m - 1) j here;
+  ledgers = mapped-there (λ k. ledgers_begun) own.links (m - 1) k there;
+  incoming = mapped-there (λ k. []) own.links (m - 1) k there;
+  outgoing = mapped-there (λ k. []) other.links (m - 1) j here;
 }
 
 well-begun : (t : LinkTables) → IsWell (seat_begun t [])
 well-begun t = record { settled = ready-settled t; incoming = tt; outgoing = tt; few = omega arith }
 
-pub begins-came : (sa sb : Setup) (p : Proto) (m : ℕ) (own other : List Link) (k j : Link) → slice_get own (m - 1) ≡ Some k → slice_get other (m - 1) ≡ Some j →
-    k ≡ link_ready k.tables → j ≡ link_ready j.tables → IsSpoken sa p k.tables → IsSpoken sb p j.tables → Anew sa sb p m (duet.start sa sb) (ends_begun own other)
+pub begins-came : (sa sb : Setup) (p : Proto) (m : ℕ) (own other : Station) (k j : Link) → slice_get own.links (m - 1) ≡ Some k → slice_get other.links (m - 1) ≡ Some j →
+    IsBegun own → IsBegun other → IsSpoken sa p k.tables → IsSpoken sb p j.tables → Anew sa sb p m (duet.start sa sb) (ends_begun own other)
 begins-came sa sb p m own other k j there here ready steady spoken heard =
     let a = opened_anew p sa.table (begun sa.table first_id) in
     let b = opened_anew p sb.table (begun sb.table first_id) in
@@ -487,7 +672,7 @@ begins-came sa sb p m own other k j there here ready steady spoken heard =
       other = seat_begun j.tables [];
       own_auto = a;
       other_auto = b;
-      own_seated = record { at = seat-begun m own other k j there here ready; well = well-begun k.tables; end = begun-end sa p k.tables [] spoken };
-      other_seated = record { at = seat-begun m other own j k here there steady; well = well-begun j.tables; end = begun-end sb p j.tables [] heard };
+      own_seated = record { station = begun-station own ready; at = seat-begun m own other k j there here (begun-ready m own k ready there); well = well-begun k.tables; end = begun-end sa p k.tables [] [] spoken };
+      other_seated = record { station = begun-station other steady; at = seat-begun m other own j k here there (begun-ready m other j steady here); well = well-begun j.tables; end = begun-end sb p j.tables [] [] heard };
       leads = record { events = all.events; none = all.none; leads = all.leads ∙ sym (λ i. duet_with a (begun-at p i) (end_of b (begun-at p i)) [] []) };
     }

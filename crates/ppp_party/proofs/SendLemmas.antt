@@ -1,24 +1,20 @@
--- The frames that an event sends, entry by entry: they all go out on its link.
-use Rattle.std.proofs.Common.{◌≡◌, ◌≢◌, ℕ, zero, suc, ◌+◌, ◌-◌, ◌≤◌, Bool, true, false, if◌then◌else◌, List, [], ◌∷◌, ◌++◌, length, take, drop, set, refl, sym, ap, ◌∙◌, append-nil, append_assoc, arith, length-append}
-use Rattle.std.specs.Prelude.{◌==◌, Option, Some, None, slice_get}
-use Rattle.std.specs.List.{AllByRecursion}
-use Rattle.std.proofs.lemmas.Bool.{ne_eqb}
-use Rattle.std.proofs.lemmas.List.{take_all, drop_all}
+-- The frames that an event sends, entry by entry, each on its link.
+use Rattle.std.proofs.Common.{◌≡◌, ◌≢◌, ℕ, zero, suc, ◌+◌, ◌-◌, ◌≤◌, ◌∙◌, Bool, true, false, if◌then◌else◌, List, [], ◌∷◌, ◌++◌, length, take, set, get_or, refl, sym, ap, append-nil, append_assoc, arith, length-append}
+use Rattle.std.specs.Prelude.{◌==◌, Option, Some, slice_get}
+use Rattle.std.proofs.lemmas.Bool.{eq-eqb, ne_eqb}
+use Rattle.std.proofs.lemmas.Grind.{flat_map-append}
+use Rattle.std.proofs.lemmas.List.{take_all}
 use Rattle.ppp_auto.specs.Packet.{Packet, Request, Ack, Nak, Reject, Other}
-use Rattle.ppp_link.specs.Link.{Link}
 use Rattle.ppp_packet.specs.declared.proto.Proto.{Proto}
 use Rattle.ppp_packet.specs.declared.proto.Proto.TheVariants.{Lcp, Ip, Ipv6, Osi, Mpls, Bacp}
 use Rattle.ppp_frame.specs.Header.{Read}
 use Rattle.ppp_station.specs.Orders.{read_in}
-use Rattle.ppp_station.specs.Station.{on_link, stepped_by}
 use Rattle.ppp_station.specs.StationOut.{Entry, Push, Got, Hang}
-use Rattle.ppp_station.specs.Steps.{Happening, link_done}
-use Rattle.ppp_party.specs.Counted.{IsCounted}
+use Rattle.ppp_party.specs.Counted.{AllCounted, IsCounted}
 use Rattle.ppp_party.specs.Frame.{Carried, Frame, carried, carried_by, mark_by, marked_frames, noted_by, noted_frames, noted_if, packet_for}
 use Rattle.ppp_party.specs.Ledger.{Ledger, Ledgers, ledger_at, ledger_begun, ledgers_begun, ledgers_by, noted}
-use Rattle.ppp_party.specs.Party.{Ends, each_noted, each_queued, posted, push_on, pushes_on, queued, room}
-use Rattle.ppp_party.proofs.ListLemmas.{drop-get}
-use Rattle.ppp_party.proofs.SentLemmas.{done-framed, none-elsewhere}
+use Rattle.ppp_party.specs.Party.{AreRoomy, each_noted, each_queued, push_on, pushes_on, queued, room}
+use Rattle.ppp_party.proofs.ListLemmas.{lent-at, take-next}
 
 -- ---- one behind the other
 
@@ -43,42 +39,150 @@ none-queued queue few = ap (take room) (append-nil queue) ∙ take_all room queu
 
 -- ---- entry by entry
 
--- what was posted so far, and what the rest comes to
-pub record Left (l mark : ℕ) (all : List Entry) (first : Ledgers) (before : List Frame) (now : Ledgers) (queue : List Frame) (rest : List Entry) : Type 0 where
-  pub notes : noted_frames now (pushes_on l rest) ≡ noted_frames first (pushes_on l all)
-  pub posts : queued queue (marked_frames now mark (pushes_on l rest)) ≡ queued before (marked_frames first mark (pushes_on l all))
+noted-append-each : (m : ℕ) (xs ys : List Entry) (gss : List Ledgers) → each_noted m (xs ++ ys) gss ≡ each_noted m ys (each_noted m xs gss)
+noted-append-each m xs ys [] = refl
+noted-append-each m xs ys (gs ∷ more) =
+    let one = ap (noted_frames gs) (flat_map-append (push_on m) xs ys) ∙ noted-append gs (pushes_on m xs) (pushes_on m ys) in
+    (λ i. one i ∷ noted-append-each (m + 1) xs ys more i)
 
-pub left-next : (l mark : ℕ) (all : List Entry) (first : Ledgers) (before : List Frame) (now : Ledgers) (queue : List Frame) (i : ℕ) (e : Entry) (new : Ledgers) (longer : List Frame) →
-    slice_get all i ≡ Some e → new ≡ noted_frames now (push_on l e) → longer ≡ queued queue (marked_frames now mark (push_on l e)) →
-    Left l mark all first before now queue (drop i all) → Left l mark all first before new longer (drop (suc i) all)
-left-next l mark all first before now queue i e new longer is notes posts left =
-    let rest = pushes_on l (drop (suc i) all) in
-    let front : drop i all ≡ e ∷ drop (suc i) all = drop-get all i e is in
+queued-append-each : (m mark : ℕ) (xs ys : List Entry) (gss : List Ledgers) (queues : List (List Frame)) →
+    each_queued m mark (xs ++ ys) gss queues ≡ each_queued m mark ys (each_noted m xs gss) (each_queued m mark xs gss queues)
+queued-append-each m mark xs ys [] queues = refl
+queued-append-each m mark xs ys (gs ∷ more) [] = refl
+queued-append-each m mark xs ys (gs ∷ more) (queue ∷ queues) =
+    let first = pushes_on m xs in
+    let rest = pushes_on m ys in
+    let one = ap (λ frames. queued queue (marked_frames gs mark frames)) (flat_map-append (push_on m) xs ys)
+    ∙ ap (queued queue) (marked-append gs mark first rest)
+    ∙ sym (queued-queued queue (marked_frames gs mark first) (marked_frames (noted_frames gs first) mark rest)) in
+    (λ i. one i ∷ queued-append-each (m + 1) mark xs ys more queues i)
+
+-- ---- on which link
+
+-- nothing goes out on these links
+noted-none : (m : ℕ) (es : List Entry) (gss : List Ledgers) → ((j : ℕ) → m ≤ j → pushes_on j es ≡ []) → each_noted m es gss ≡ gss
+noted-none m es [] none = refl
+noted-none m es (gs ∷ more) none =
+    (λ i. noted_frames gs (none m (omega arith) i) ∷ noted-none (m + 1) es more (λ j low. none j (omega (arith, low))) i)
+
+queued-none : (m mark : ℕ) (es : List Entry) (gss : List Ledgers) (queues : List (List Frame)) → ((j : ℕ) → m ≤ j → pushes_on j es ≡ []) → AreRoomy queues → each_queued m mark es gss queues ≡ queues
+queued-none m mark es [] queues none few = refl
+queued-none m mark es (gs ∷ more) [] none few = refl
+queued-none m mark es (gs ∷ more) (queue ∷ queues) none few =
+    let stays = ap (λ frames. queued queue (marked_frames gs mark frames)) (none m (omega arith)) ∙ none-queued queue few.0 in
+    (λ i. stays i ∷ queued-none (m + 1) mark es more queues (λ j low. none j (omega (arith, low))) few.1 i)
+
+-- what goes out goes out on one link
+noted-set : (m i : ℕ) (es : List Entry) (gss : List Ledgers) (g : Ledgers) → slice_get gss i ≡ Some g → ((j : ℕ) → j ≢ m + i → pushes_on j es ≡ []) →
+    each_noted m es gss ≡ set gss i (noted_frames g (pushes_on (m + i) es))
+noted-set m i es [] g is none = absurd (cc)
+noted-set m zero es (x ∷ more) g is none =
+    let same : x ≡ g = cc in
+    let at : m ≡ m + 0 = omega arith in
+    (λ i. noted_frames (same i) (pushes_on (at i) es) ∷ noted-none (m + 1) es more (λ j low. none j (λ here. absurd (omega (arith, low, here)))) i)
+noted-set m (suc i) es (x ∷ more) g is none =
+    let at : m + 1 + i ≡ m + suc i = omega arith in
+    let tail = noted-set (m + 1) i es more g is (λ j other. none j (λ here. other (here ∙ sym at))) ∙ ap (λ n. set more i (noted_frames g (pushes_on n es))) at in
+    (λ k. noted_frames x (none m (λ here. absurd (omega (arith, here))) k) ∷ tail k)
+
+queued-set : (m i mark : ℕ) (es : List Entry) (gss : List Ledgers) (queues : List (List Frame)) (g : Ledgers) (queue : List Frame) → slice_get gss i ≡ Some g → slice_get queues i ≡ Some queue →
+    ((j : ℕ) → j ≢ m + i → pushes_on j es ≡ []) → AreRoomy queues →
+    each_queued m mark es gss queues ≡ set queues i (queued queue (marked_frames g mark (pushes_on (m + i) es)))
+queued-set m i mark es [] queues g queue is waits none few = absurd (cc)
+queued-set m i mark es (x ∷ more) [] g queue is waits none few = absurd (cc)
+queued-set m zero mark es (x ∷ more) (y ∷ queues) g queue is waits none few =
+    let same : x ≡ g = cc in
+    let one : y ≡ queue = cc in
+    let at : m ≡ m + 0 = omega arith in
+    let tail = queued-none (m + 1) mark es more queues (λ j low. none j (λ here. absurd (omega (arith, low, here)))) few.1 in
+    (λ i. queued (one i) (marked_frames (same i) mark (pushes_on (at i) es)) ∷ tail i)
+queued-set m (suc i) mark es (x ∷ more) (y ∷ queues) g queue is waits none few =
+    let at : m + 1 + i ≡ m + suc i = omega arith in
+    let stays = ap (λ frames. queued y (marked_frames x mark frames)) (none m (λ here. absurd (omega (arith, here)))) ∙ none-queued y few.0 in
+    let tail = queued-set (m + 1) i mark es more queues g queue is waits (λ j other. none j (λ here. other (here ∙ sym at))) few.1
+    ∙ ap (λ n. set queues i (queued queue (marked_frames g mark (pushes_on n es)))) at in
+    (λ k. stays k ∷ tail k)
+
+-- ---- one entry
+
+own-push : (l : ℕ) (octets : List ℕ) → pushes_on l (Push l octets ∷ []) ≡ octets ∷ []
+own-push l octets = rw (eq-eqb l l refl) refl
+
+other-push : (l j : ℕ) (octets : List ℕ) → j ≢ l → pushes_on j (Push l octets ∷ []) ≡ []
+other-push l j octets other = rw (ne_eqb l j (λ same. other (sym same))) refl
+
+-- a frame goes out on its link
+module _ (l at mark : ℕ) (octets : List ℕ) (gss : List Ledgers) (queues : List (List Frame)) (g now : Ledgers) (queue longer : List Frame)
+    (is : at ≡ l - 1) (low : 1 ≤ l) (high : l ≤ length gss) (lends : g ≡ get_or gss at g) where
+  number : 1 + (l - 1) ≡ l
+  number = omega (arith, low)
+
+  nowhere : (j : ℕ) → j ≢ 1 + (l - 1) → pushes_on j (Push l octets ∷ []) ≡ []
+  nowhere j other = other-push l j octets (λ same. other (same ∙ sym number))
+
+  frames : pushes_on (1 + (l - 1)) (Push l octets ∷ []) ≡ octets ∷ []
+  frames = ap (λ n. pushes_on n (Push l octets ∷ [])) number ∙ own-push l octets
+
+  pub noted-push : now ≡ noted_frames g (octets ∷ []) → set gss at now ≡ each_noted 1 (Push l octets ∷ []) gss
+  noted-push now_is =
+      (λ i. set gss (is i) ((now_is ∙ ap (noted_frames g) (sym frames)) i))
+      ∙ sym (noted-set 1 (l - 1) (Push l octets ∷ []) gss g (lent-at gss at l g is low high lends) nowhere)
+
+  pub queued-push : length queues ≡ length gss → AreRoomy queues → queue ≡ get_or queues at queue → longer ≡ queued queue (marked_frames g mark (octets ∷ [])) →
+      set queues at longer ≡ each_queued 1 mark (Push l octets ∷ []) gss queues
+  queued-push alike few waits longer_is =
+      (λ i. set queues (is i) ((longer_is ∙ ap (λ fs. queued queue (marked_frames g mark fs)) (sym frames)) i))
+      ∙ sym (queued-set 1 (l - 1) mark (Push l octets ∷ []) gss queues g queue (lent-at gss at l g is low high lends) (lent-at queues at l queue is low (omega (arith, high, alike)) waits) nowhere few)
+
+-- an entry that is no frame
+abbrev pub IsNoPush : Entry → Type 0
+IsNoPush (Push link octets) = ⊥
+IsNoPush (Got class protocol octets) = Unit {0}
+IsNoPush (Hang link) = Unit {0}
+
+no-push : (e : Entry) (j : ℕ) → IsNoPush e → pushes_on j (e ∷ []) ≡ []
+no-push (Push link octets) j none = absurd none
+no-push (Got class protocol octets) j none = refl
+no-push (Hang link) j none = refl
+
+pub noted-nothing : (e : Entry) (gss : List Ledgers) → IsNoPush e → gss ≡ each_noted 1 (e ∷ []) gss
+noted-nothing e gss none = sym (noted-none 1 (e ∷ []) gss (λ j low. no-push e j none))
+
+pub queued-nothing : (mark : ℕ) (e : Entry) (gss : List Ledgers) (queues : List (List Frame)) → IsNoPush e → AreRoomy queues → queues ≡ each_queued 1 mark (e ∷ []) gss queues
+queued-nothing mark e gss queues none few = sym (queued-none 1 mark (e ∷ []) gss queues (λ j low. no-push e j none) few)
+
+-- ---- all entries
+
+-- what the first entries made of the ledgers and queues
+pub record PostedSo (mark i : ℕ) (all : List Entry) (first now : List Ledgers) (before queues : List (List Frame)) : Type 0 where
+  pub notes : now ≡ each_noted 1 (take i all) first
+  pub posts : queues ≡ each_queued 1 mark (take i all) first before
+
+pub posted-none : (mark : ℕ) (all : List Entry) (first : List Ledgers) (before : List (List Frame)) → AreRoomy before → PostedSo mark 0 all first first before before
+posted-none mark all first before few = record {
+  notes = sym (noted-none 1 [] first (λ j low. refl));
+  posts = sym (queued-none 1 mark [] first before (λ j low. refl) few);
+}
+
+pub posted-next : (mark i : ℕ) (all : List Entry) (first now new : List Ledgers) (before queues longer : List (List Frame)) (e : Entry) → slice_get all i ≡ Some e →
+    new ≡ each_noted 1 (e ∷ []) now → longer ≡ each_queued 1 mark (e ∷ []) now queues → PostedSo mark i all first now before queues → PostedSo mark (suc i) all first new before longer
+posted-next mark i all first now new before queues longer e is notes posts so =
+    let front : take (suc i) all ≡ take i all ++ e ∷ [] = take-next all i e is in
     record {
-      notes = ap (λ gs. noted_frames gs rest) notes
-          ∙ sym (noted-append now (push_on l e) rest)
-          ∙ ap (λ es. noted_frames now (pushes_on l es)) (sym front)
-          ∙ left.notes;
-      posts = (λ i. queued (posts i) (marked_frames (notes i) mark rest))
-          ∙ queued-queued queue (marked_frames now mark (push_on l e)) (marked_frames (noted_frames now (push_on l e)) mark rest)
-          ∙ ap (queued queue) (sym (marked-append now mark (push_on l e) rest))
-          ∙ ap (λ es. queued queue (marked_frames now mark (pushes_on l es))) (sym front)
-          ∙ left.posts;
+      notes = notes ∙ ap (each_noted 1 (e ∷ [])) so.notes ∙ sym (ap (λ es. each_noted 1 es first) front ∙ noted-append-each 1 (take i all) (e ∷ []) first);
+      posts = posts
+          ∙ (λ j. each_queued 1 mark (e ∷ []) (so.notes j) (so.posts j))
+          ∙ sym (ap (λ es. each_queued 1 mark es first before) front ∙ queued-append-each 1 mark (take i all) (e ∷ []) first before);
     }
 
--- at the end
-pub record Posted (l mark : ℕ) (all : List Entry) (first : Ledgers) (before : List Frame) (now : Ledgers) (queue : List Frame) : Type 0 where
-  pub notes : now ≡ noted_frames first (pushes_on l all)
-  pub posts : queue ≡ queued before (marked_frames first mark (pushes_on l all))
+pub record AllPosted (mark : ℕ) (all : List Entry) (first now : List Ledgers) (before queues : List (List Frame)) : Type 0 where
+  pub notes : now ≡ each_noted 1 all first
+  pub posts : queues ≡ each_queued 1 mark all first before
 
-pub left-none : (l mark : ℕ) (all : List Entry) (first : Ledgers) (before : List Frame) (now : Ledgers) (queue : List Frame) (i : ℕ) → length all ≤ i → length queue ≤ room →
-    Left l mark all first before now queue (drop i all) → Posted l mark all first before now queue
-left-none l mark all first before now queue i past few left =
-    let none : drop i all ≡ [] = drop_all i all past in
-    record {
-      notes = ap (λ es. noted_frames now (pushes_on l es)) (sym none) ∙ left.notes;
-      posts = sym (none-queued queue few) ∙ ap (λ es. queued queue (marked_frames now mark (pushes_on l es))) (sym none) ∙ left.posts;
-    }
+pub posted-all : (mark i : ℕ) (all : List Entry) (first now : List Ledgers) (before queues : List (List Frame)) → length all ≤ i → PostedSo mark i all first now before queues → AllPosted mark all first now before queues
+posted-all mark i all first now before queues past so =
+    let whole : take i all ≡ all = take_all i all past in
+    record { notes = so.notes ∙ ap (λ es. each_noted 1 es first) whole; posts = so.posts ∙ ap (λ es. each_queued 1 mark es first before) whole }
 
 -- ---- how much is counted
 
@@ -127,106 +231,25 @@ pushes-length l (e ∷ es) = omega (arith, push-length l e, pushes-length l es, 
 pub counted-more : (most more : ℕ) (gs : Ledgers) → most ≤ more → IsCounted most gs → IsCounted more gs
 counted-more most more gs less all p = let one = all p in omega (arith, one)
 
-pub counted-push : (most l : ℕ) (gs : Ledgers) (e : Entry) → IsCounted most gs → IsCounted (most + 1) (noted_frames gs (push_on l e))
-counted-push most l gs e all p =
+counted-pushes : (most few m : ℕ) (gs : Ledgers) (es : List Entry) → length es ≤ few → IsCounted most gs → IsCounted (most + few) (noted_frames gs (pushes_on m es))
+counted-pushes most few m gs es less all p =
     let one = all p in
-    let few = frames-few gs (push_on l e) p in
-    let short = push-length l e in
-    omega (arith, one, few, short)
-
-pub counted-pushes : (most few l : ℕ) (gs : Ledgers) (es : List Entry) → length es ≤ few → IsCounted most gs → IsCounted (most + few) (noted_frames gs (pushes_on l es))
-counted-pushes most few l gs es less all p =
-    let one = all p in
-    let grown = frames-few gs (pushes_on l es) p in
-    let short = pushes-length l es in
+    let grown = frames-few gs (pushes_on m es) p in
+    let short = pushes-length m es in
     omega (arith, one, grown, short)
 
--- ---- on which link
+pub all-more : (most more : ℕ) (gss : List Ledgers) → most ≤ more → AllCounted most gss → AllCounted more gss
+all-more most more [] less all = tt
+all-more most more (gs ∷ gss) less all = (counted-more most more gs less all.0, all-more most more gss less all.1)
 
--- nothing goes out on another link
-pub elsewhere-by : (what : Happening) (l m word : ℕ) (links : List Link) (o : Option Link) → m ≢ l → pushes_on m (stepped_by what l links word o).out.entries ≡ []
-elsewhere-by what l m word links None other = refl
-elsewhere-by what l m word links (Some k) other = none-elsewhere l m (link_done what l k word).out other (done-framed what l word k)
-
-elsewhere : (what : Happening) (l m word : ℕ) (links : List Link) → m ≢ l → pushes_on m (on_link what l links word).out.entries ≡ []
-elsewhere what l m word links other = elsewhere-by what l m word links (slice_get links (l - 1)) other
-
-noted-none : (m : ℕ) (es : List Entry) (gss : List Ledgers) → ((j : ℕ) → m ≤ j → pushes_on j es ≡ []) → each_noted m es gss ≡ gss
-noted-none m es [] none = refl
-noted-none m es (gs ∷ more) none =
-    (λ i. noted_frames gs (none m (omega arith) i) ∷ noted-none (m + 1) es more (λ j low. none j (omega (arith, low))) i)
-
-noted-set : (m i : ℕ) (es : List Entry) (gss : List Ledgers) (g : Ledgers) → slice_get gss i ≡ Some g → ((j : ℕ) → j ≢ m + i → pushes_on j es ≡ []) →
-    each_noted m es gss ≡ set gss i (noted_frames g (pushes_on (m + i) es))
-noted-set m i es [] g is none = absurd (cc)
-noted-set m zero es (x ∷ more) g is none =
-    let same : x ≡ g = cc in
-    let at : m ≡ m + 0 = omega arith in
-    (λ i. noted_frames (same i) (pushes_on (at i) es) ∷ noted-none (m + 1) es more (λ j low. none j (λ here. absurd (omega (arith, low, here)))) i)
-noted-set m (suc i) es (x ∷ more) g is none =
-    let at : m + 1 + i ≡ m + suc i = omega arith in
-    let tail = noted-set (m + 1) i es more g is (λ j other. none j (λ here. other (here ∙ sym at))) ∙ ap (λ n. set more i (noted_frames g (pushes_on n es))) at in
-    (λ k. noted_frames x (none m (λ here. absurd (omega (arith, here))) k) ∷ tail k)
-
-queued-none : (m mark : ℕ) (es : List Entry) (gss : List Ledgers) (queues : List (List Frame)) → ((j : ℕ) → m ≤ j → pushes_on j es ≡ []) → AllByRecursion (λ queue. length queue ≤ room) queues →
-    each_queued m mark es gss queues ≡ queues
-queued-none m mark es [] queues none few = refl
-queued-none m mark es (gs ∷ more) [] none few = refl
-queued-none m mark es (gs ∷ more) (queue ∷ queues) none few =
-    let stays = ap (λ frames. queued queue (marked_frames gs mark frames)) (none m (omega arith)) ∙ none-queued queue few.0 in
-    (λ i. stays i ∷ queued-none (m + 1) mark es more queues (λ j low. none j (omega (arith, low))) few.1 i)
-
-queued-set : (m i mark : ℕ) (es : List Entry) (gss : List Ledgers) (queues : List (List Frame)) (g : Ledgers) (queue : List Frame) → slice_get gss i ≡ Some g → slice_get queues i ≡ Some queue →
-    ((j : ℕ) → j ≢ m + i → pushes_on j es ≡ []) → AllByRecursion (λ queue. length queue ≤ room) queues →
-    each_queued m mark es gss queues ≡ set queues i (queued queue (marked_frames g mark (pushes_on (m + i) es)))
-queued-set m i mark es [] queues g queue is waits none few = absurd (cc)
-queued-set m i mark es (x ∷ more) [] g queue is waits none few = absurd (cc)
-queued-set m zero mark es (x ∷ more) (y ∷ queues) g queue is waits none few =
-    let same : x ≡ g = cc in
-    let one : y ≡ queue = cc in
-    let at : m ≡ m + 0 = omega arith in
-    let tail = queued-none (m + 1) mark es more queues (λ j low. none j (λ here. absurd (omega (arith, low, here)))) few.1 in
-    (λ i. queued (one i) (marked_frames (same i) mark (pushes_on (at i) es)) ∷ tail i)
-queued-set m (suc i) mark es (x ∷ more) (y ∷ queues) g queue is waits none few =
-    let at : m + 1 + i ≡ m + suc i = omega arith in
-    let stays = ap (λ frames. queued y (marked_frames x mark frames)) (none m (λ here. absurd (omega (arith, here)))) ∙ none-queued y few.0 in
-    let tail = queued-set (m + 1) i mark es more queues g queue is waits (λ j other. none j (λ here. other (here ∙ sym at))) few.1
-    ∙ ap (λ n. set queues i (queued queue (marked_frames g mark (pushes_on n es)))) at in
-    (λ k. stays k ∷ tail k)
-
--- an event posts on its link alone
-pub posted-set : (what : Happening) (l word mark : ℕ) (links : List Link) (e : Ends) (g : Ledgers) (queue : List Frame) → 1 ≤ l →
-    slice_get e.own.ledgers (l - 1) ≡ Some g → slice_get e.other.incoming (l - 1) ≡ Some queue → AllByRecursion (λ queue. length queue ≤ room) e.other.incoming →
-    let step = on_link what l links word in
-    let frames = pushes_on l step.out.entries in
-    posted mark step e ≡ record {
-      own = record e.own { links = step.links; ledgers = set e.own.ledgers (l - 1) (noted_frames g frames) };
-      other = record e.other { incoming = set e.other.incoming (l - 1) (queued queue (marked_frames g mark frames)) };
-    }
-posted-set what l word mark links e g queue low is waits few =
-    let step = on_link what l links word in
-    let es = step.out.entries in
-    let one : 1 + (l - 1) ≡ l = omega arith in
-    let none : (j : ℕ) → j ≢ 1 + (l - 1) → pushes_on j es ≡ [] = λ j other. elsewhere what l j word links (λ here. other (here ∙ sym one)) in
-    let ledgers = noted-set 1 (l - 1) es e.own.ledgers g is none ∙ ap (λ n. set e.own.ledgers (l - 1) (noted_frames g (pushes_on n es))) one in
-    let queues = queued-set 1 (l - 1) mark es e.own.ledgers e.other.incoming g queue is waits none few
-    ∙ ap (λ n. set e.other.incoming (l - 1) (queued queue (marked_frames g mark (pushes_on n es)))) one in
-    (λ i. record { own = record e.own { links = step.links; ledgers = ledgers i }; other = record e.other { incoming = queues i } })
+pub noted-counted : (most few m : ℕ) (es : List Entry) (gss : List Ledgers) → length es ≤ few → AllCounted most gss → AllCounted (most + few) (each_noted m es gss)
+noted-counted most few m es [] less all = tt
+noted-counted most few m es (gs ∷ gss) less all = (counted-pushes most few m gs es less all.0, noted-counted most few (m + 1) es gss less all.1)
 
 -- what a frame carries, by what a reader lends of it
 pub carried-is : (octets : List ℕ) (o : Option Read) → o ≡ read_in octets → carried_by o ≡ carried octets
 unfolding carried
 carried-is octets o is = ap carried_by is
-
--- an entry that is no frame on the link
-pub other-link : (l on : ℕ) (octets : List ℕ) → on ≢ l → push_on l (Push on octets) ≡ []
-other-link l on octets other = rw (ne_eqb on l other) refl
-
-pub nothing-posted : (l mark : ℕ) (gs : Ledgers) (queue : List Frame) (e : Entry) → push_on l e ≡ [] → length queue ≤ room → queue ≡ queued queue (marked_frames gs mark (push_on l e))
-nothing-posted l mark gs queue e none few = sym (ap (λ frames. queued queue (marked_frames gs mark frames)) none ∙ none-queued queue few)
-
-pub nothing-noted : (l : ℕ) (gs : Ledgers) (e : Entry) → push_on l e ≡ [] → gs ≡ noted_frames gs (push_on l e)
-nothing-noted l gs e none = sym (ap (noted_frames gs) none)
 
 -- ---- ledgers that begin, and one frame more
 

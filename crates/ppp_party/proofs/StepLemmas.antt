@@ -1,8 +1,8 @@
--- An event on a link of an end is, for each protocol on it, a list of the two ends' events.
-use Rattle.std.proofs.Common.{◌≡◌, ℕ, zero, suc, ◌-◌, take, Bool, true, false, if◌then◌else◌, List, [], ◌∷◌, ◌++◌, refl, sym, ap, subst, ◌∙◌, inl, inr}
-use Rattle.std.specs.Prelude.{◌⊎◌, ◌==◌, ◌||◌, Option, Some, None}
+-- An event at an end is, for each protocol on each link, a list of the two ends' events.
+use Rattle.std.proofs.Common.{◌≡◌, ◌≢◌, ℕ, zero, suc, ◌-◌, take, Bool, true, false, if◌then◌else◌, List, [], ◌∷◌, ◌++◌, refl, sym, ap, subst, ◌∙◌, inl, inr}
+use Rattle.std.specs.Prelude.{◌⊎◌, ◌==◌, ◌&&◌, ◌||◌, Option, Some, None}
 use Rattle.std.specs.List.{AllByRecursion}
-use Rattle.std.proofs.lemmas.Bool.{eq-eqb}
+use Rattle.std.proofs.lemmas.Bool.{eq-eqb, ne_eqb}
 use Rattle.ppp_auto.specs.Auto.{Auto, is_opened}
 use Rattle.ppp_auto.specs.Automaton.{take_read}
 use Rattle.ppp_auto.specs.Packet.{Packet, packet_of}
@@ -21,22 +21,20 @@ use Rattle.ppp_packet.specs.declared.proto.Proto.TheVariants.{Lcp, Ip, Ipv6, Osi
 use Rattle.ppp_packet.specs.Packet.{two_octets}
 use Rattle.ppp_link.specs.Automata.{Automata, auto_at, cap_of, is_there}
 use Rattle.ppp_link.specs.Link.{Link, read_by}
-use Rattle.ppp_link.specs.LinkOut.{Entry as LinkTold}
-use Rattle.ppp_link.specs.LinkOut as told
 use Rattle.ppp_link.specs.LinkTables.{LinkTables, table_of}
-use Rattle.ppp_link.specs.Steps.{Event as Commanded, Packet as Octets, after, is_payload, rejected_in, there, told_by}
-use Rattle.ppp_station.specs.Orders.{Obeyed, Order, Commands, SetsCap, Hears, RejectsProtocol, and_sends, auto_by, caps_after, caused, is_net, is_same, obeyed, obeys_all, of_frame_for, of_given, of_link, of_packet, of_read, of_rejected, of_rejected_there, orders, own_order, read_in, rejects_as, sent_by}
-use Rattle.ppp_station.specs.StationOut.{AreShort}
-use Rattle.ppp_station.specs.Steps.{Happening, LineUp, LineDown, Opens, Closes, TimesOut, Takes, link_does, link_done}
+use Rattle.ppp_link.specs.Steps.{Event as Commanded, Packet as Octets, after, is_payload, rejected_in, run_by, there, told_by}
+use Rattle.ppp_station.specs.Control.{Run}
+use Rattle.ppp_station.specs.Moves.{Moves, goes_with, of_own, of_run, of_runs, orders_at}
+use Rattle.ppp_station.specs.Orders.{Obeyed, Order, Commands, SetsCap, Hears, RejectsProtocol, and_sends, auto_by, caps_after, is_same, obeyed, obeys_all, of_frame_for, of_given, of_link, of_packet, of_read, of_rejected, of_rejected_there, own_order, read_in, rejects_as, sent_by}
+use Rattle.ppp_station.specs.StationOut.{Entry}
+use Rattle.ppp_station.specs.Steps.{Happening, LineUp, LineDown, Opens, Closes, TimesOut, Takes}
 use Rattle.ppp_station.proofs.FrameLemmas.{control-read}
 use Rattle.ppp_station.proofs.OrdersLemmas.{same-proto}
-use Rattle.ppp_station.proofs.SignalLemmas.{all_caused}
-use Rattle.ppp_station.proofs.WovenLemmas.{done-auto, done-sent, done-tables}
 use Rattle.ppp_party.specs.Events.{AreCaused, DeliversFirst, IsCaused, IsNoReboot, Leads, Makes}
 use Rattle.ppp_party.specs.Frame.{Carried, Frame, carried, carried_as, carried_by, marked_for, marked_frames, noted_frames, only, packet_for, packets_for, seen}
 use Rattle.ppp_party.specs.Ledger.{Ledger, Ledgers, IsLedgerOf, end_of, heard, ledger_at, noted_all, stamped}
-use Rattle.ppp_party.specs.Party.{heard_by, heard_on, heard_packet, pushes_on}
-use Rattle.ppp_party.specs.Seat.{IsEnd, IsSpoken, IsNoFrame, IsSent, IsSettled, Seat, seat_duet, seat_happens, seat_loses, seat_posted, seat_taking}
+use Rattle.ppp_party.specs.Party.{heard_by, heard_on, heard_packet, pushes_on, queued}
+use Rattle.ppp_party.specs.Seat.{IsEnd, IsSpoken, IsNoFrame, IsSent, IsSettled, Seat, seat_duet, seat_heard, seat_loses, seat_posted}
 use Rattle.ppp_party.proofs.LedgerLemmas.{read_all, read_one}
 use Rattle.ppp_party.proofs.OrderLemmas.{AllByRecursion-append, BringsNone, at_own, duet_with, frame-run, joined, orders-run}
 use Rattle.ppp_party.proofs.PostLemmas.{marked-frames, noted-frames, number-some, of-info, pushes-packets, queued-leads}
@@ -44,10 +42,10 @@ use Rattle.ppp_party.proofs.ReadLemmas.{lent-as}
 
 -- ---- orders that bring no frame
 
-abbrev None_in : List Order → Type 0
+abbrev pub None_in : List Order → Type 0
 None_in os = AllByRecursion BringsNone os
 
-none-append : (os more : List Order) → None_in os → None_in more → None_in (os ++ more)
+pub none-append : (os more : List Order) → None_in os → None_in more → None_in (os ++ more)
 none-append os more first rest = AllByRecursion-append BringsNone os more first rest
 
 command-none : (b : Bool) (event : AutoEvent) → None_in (if b then Commands event ∷ [] else [])
@@ -65,19 +63,6 @@ caps-none Bacp k = tt
 given-none : (p : Proto) (t : LinkTables) (word : ℕ) (q : Proto) (event : AutoEvent) (k : Automata) → None_in (of_given p t word q (Commanded event) k)
 given-none p t word q event k = none-append (own_order p q (Commanded event)) _ (command-none (is_same p q) event) (caps-none q _)
 
-caused-none : (p : Proto) (e : LinkTold) → None_in (caused p e)
-caused-none p (told.Push octets) = tt
-caused-none p told.LcpUp = command-none (is_net p) Up
-caused-none p told.LcpDown = command-none (is_net p) Down
-caused-none p told.Finished = tt
-caused-none p (told.NetUp q) = tt
-caused-none p (told.NetDown q) = tt
-caused-none p (told.Payload number octets) = tt
-
-all-none : (p : Proto) (es : List LinkTold) → None_in (all_caused p es)
-all-none p [] = tt
-all-none p (e ∷ es) = none-append (caused p e) (all_caused p es) (caused-none p e) (all-none p es)
-
 link-none : (p : Proto) (what : Happening) (k : Link) (word : ℕ) → IsNoFrame what → None_in (of_link p what k word)
 link-none p LineUp k word quiet = given-none p k.tables word Lcp Up k.automata
 link-none p LineDown k word quiet = given-none p k.tables word Lcp Down k.automata
@@ -85,6 +70,28 @@ link-none p (Opens q) k word quiet = given-none p k.tables word q AdminOpen k.au
 link-none p (Closes q) k word quiet = given-none p k.tables word q AdminClose k.automata
 link-none p (TimesOut q) k word quiet = given-none p k.tables word q Timeout k.automata
 link-none p (Takes octets) k word quiet = absurd quiet
+
+-- those of protocols that go Up or Down
+runs-none : (m : ℕ) (p : Proto) (rs : List Run) → None_in (of_runs m p rs)
+runs-none m p [] = tt
+runs-none m p (r ∷ rs) = none-append (of_run m p r) (of_runs m p rs) (command-none ((r.link == m) && goes_with p r.bacp) (run_by r.on)) (runs-none m p rs)
+
+own-none : (p : Proto) (what : Happening) (k : Link) (word : ℕ) (b : Bool) → IsNoFrame what → None_in (if b then of_link p what k word else [])
+own-none p what k word true quiet = link-none p what k word quiet
+own-none p what k word false quiet = tt
+
+pub quiet-none : (l m : ℕ) (p : Proto) (what : Happening) (rs : List Run) (k : Link) (word : ℕ) → IsNoFrame what → None_in (orders_at l m p what rs k word)
+quiet-none l m p what rs k word quiet = none-append (of_own l m p what k word) (of_runs m p rs) (own-none p what k word (l == m) quiet) (runs-none m p rs)
+
+-- the own step of a link is there alone
+pub own-here : (l : ℕ) (p : Proto) (what : Happening) (k : Link) (word : ℕ) → of_own l l p what k word ≡ of_link p what k word
+own-here l p what k word = ap (λ b. if b then of_link p what k word else []) (eq-eqb l l refl)
+
+pub own-other : (l m : ℕ) (p : Proto) (what : Happening) (k : Link) (word : ℕ) → m ≢ l → of_own l m p what k word ≡ []
+own-other l m p what k word other = ap (λ b. if b then of_link p what k word else []) (ne_eqb l m (λ same. other (sym same)))
+
+pub other-none : (l m : ℕ) (p : Proto) (what : Happening) (rs : List Run) (k : Link) (word : ℕ) → m ≢ l → None_in (orders_at l m p what rs k word)
+other-none l m p what rs k word other = subst (λ os. None_in (os ++ of_runs m p rs)) (sym (own-other l m p what k word other)) (runs-none m p rs)
 
 -- ---- orders by a frame: at most the first brings it
 
@@ -104,9 +111,9 @@ rejects-none Osi number info k = tt
 rejects-none Mpls number info k = tt
 rejects-none Bacp number info k = tt
 
-other-none : (p : Proto) (number : ℕ) (info : List ℕ) (k : Automata) (b : Bool) → None_in (if b then [] else rejects_as p number info k)
-other-none p number info k true = tt
-other-none p number info k false = rejects-none p number info k
+payload-none : (p : Proto) (number : ℕ) (info : List ℕ) (k : Automata) (b : Bool) → None_in (if b then [] else rejects_as p number info k)
+payload-none p number info k true = tt
+payload-none p number info k false = rejects-none p number info k
 
 -- the first order is to take what was read, which is of the protocol
 record IsHeard (p : Proto) (read : Option Read) (os : List Order) : Type 0 where
@@ -144,7 +151,7 @@ packet-orders p t word q number info k false e is =
 for-orders : (p : Proto) (t : LinkTables) (word : ℕ) (o : Option Proto) (number : ℕ) (info : List ℕ) (k : Automata) → there k (proto_of number) ≡ o →
     None_in (of_frame_for p t word o number info k) ⊎ IsHeard p (Some (reads number info)) (of_frame_for p t word o number info k)
 for-orders p t word (Some q) number info k e = packet-orders p t word q number info k (is_same p q) refl (there-some k (proto_of number) q e)
-for-orders p t word None number info k e = inl (other-none p number info k (is_payload t k number))
+for-orders p t word None number info k e = inl (payload-none p number info k (is_payload t k number))
 
 frame-orders : (p : Proto) (t : LinkTables) (word number : ℕ) (info : List ℕ) (k : Automata) (b : Bool) →
     None_in (if b then of_frame_for p t word (there k (proto_of number)) number info k else [])
@@ -192,58 +199,65 @@ pub record SeatMakes (sa sb : Setup) (p : Proto) (s new : Seat) (a : Auto) (b : 
   pub end : IsEnd sa p new auto
   pub makes : Makes sa sb (seat_duet p a s b) (seat_duet p auto new b)
 
--- what the station's step is to the automaton of p, which obeyed these orders
-pub record IsDone (sa : Setup) (p : Proto) (l word : ℕ) (k : Link) (what : Happening) (did : Obeyed) : Type 0 where
-  pub auto : auto_at (link_done what l k word).link.automata p ≡ Some did.auto
-  pub sent : packets_for p (pushes_on l (link_done what l k word).out) ≡ read_all did.sent
+-- the automaton of p as it obeyed, and its packets in the frames that went out
+pub record IsDone (p : Proto) (now : Link) (frames : List (List ℕ)) (did : Obeyed) : Type 0 where
+  pub auto : auto_at now.automata p ≡ Some did.auto
+  pub sent : packets_for p frames ≡ read_all did.sent
 
-pub is-done : (sa : Setup) (p : Proto) (what : Happening) (l word : ℕ) (k : Link) (a : Auto) → AreShort (link_done what l k word).out →
-    sa.table ≡ table_of k.tables p → auto_at k.automata p ≡ Some a → IsDone sa p l word k what (obeys_all sa.table word (orders p what k word) a)
-is-done sa p what l word k a short table auto =
-    let os = orders p what k word in
+pub is-done : (sa : Setup) (p : Proto) (what : Happening) (l m word : ℕ) (rs : List Run) (k now : Link) (out : List Entry) (a : Auto) → Moves l m what rs word k now out →
+    sa.table ≡ table_of k.tables p → auto_at k.automata p ≡ Some a → IsDone p now (pushes_on m out) (obeys_all sa.table word (orders_at l m p what rs k word) a)
+is-done sa p what l m word rs k now out a moves table auto =
+    let os = orders_at l m p what rs k word in
     record {
-      auto = done-auto p what l word k ∙ ap (auto_by k.tables p word os) auto ∙ ap (λ t. Some (obeys_all t word os a).auto) (sym table);
-      sent = pushes-packets p l (link_done what l k word).out
-          ∙ ap read_all (done-sent p what l word k short ∙ ap (sent_by k.tables p word os) auto ∙ ap (λ t. (obeys_all t word os a).sent) (sym table));
+      auto = moves.automata p ∙ ap (auto_by k.tables p word os) auto ∙ ap (λ t. Some (obeys_all t word os a).auto) (sym table);
+      sent = pushes-packets p m out
+          ∙ ap read_all (moves.packets p ∙ ap (sent_by k.tables p word os) auto ∙ ap (λ t. (obeys_all t word os a).sent) (sym table));
     }
 
-post : (sa sb : Setup) (p : Proto) (what : Happening) (l word mark : ℕ) (old s : Seat) (a : Auto) (b : End) (did : Obeyed) →
-    IsDone sa p l word s.link what did → IsSpoken sa p s.link.tables →
+-- what was sent is noted and under way, as far as there is room for it
+pub record GoesOut (sa sb : Setup) (p : Proto) (mark : ℕ) (s new : Seat) (d : Auto) (b : End) (packets : List Packet) : Type 0 where
+  pub kept : IsLedgerOf d (ledger_at new.ledgers p)
+  pub leads : Leads sa sb
+      (duet_with d (noted_all (ledger_at s.ledgers p) packets) b (only p s.incoming) (only p s.outgoing ++ stamped (ledger_at s.ledgers p) mark packets))
+      (seat_duet p d new b)
+
+pub goes-out : (sa sb : Setup) (p : Proto) (mark : ℕ) (s : Seat) (now : Link) (frames : List (List ℕ)) (d : Auto) (b : End) (packets : List Packet) → packets_for p frames ≡ packets →
+    IsLedgerOf d (noted_all (ledger_at s.ledgers p) packets) → GoesOut sa sb p mark s (seat_posted mark now frames s) d b packets
+goes-out sa sb p mark s now frames d b packets is kept =
+    let g = ledger_at s.ledgers p in
+    let sent = marked_frames s.ledgers mark frames in
+    let after = ledger_at (noted_frames s.ledgers frames) p in
+    let ledger : after ≡ noted_all g packets = noted-frames s.ledgers p frames ∙ ap (noted_all g) is in
+    let out : only p sent ≡ stamped g mark packets = marked-frames s.ledgers p mark frames ∙ ap (stamped g mark) is in
+    record {
+      kept = subst (λ g. IsLedgerOf d g) (sym ledger) kept;
+      leads = subst (λ x. Leads sa sb x (duet_with d after b (only p s.incoming) (only p (queued s.outgoing sent))))
+          (λ i. duet_with d (ledger i) b (only p s.incoming) (only p s.outgoing ++ out i))
+          (queued-leads sa sb (end_of d after) b (only p s.incoming) p s.outgoing sent);
+    }
+
+post : (sa sb : Setup) (p : Proto) (mark : ℕ) (old s : Seat) (now : Link) (frames : List (List ℕ)) (a : Auto) (b : End) (did : Obeyed) →
+    IsDone p now frames did → now.tables ≡ s.link.tables → IsSpoken sa p s.link.tables →
     IsLedgerOf did.auto (noted_all (ledger_at s.ledgers p) (read_all did.sent)) →
     Makes sa sb (seat_duet p a old b) (duet_with did.auto (noted_all (ledger_at s.ledgers p) (read_all did.sent)) b (only p s.incoming) (only p s.outgoing ++ stamped (ledger_at s.ledgers p) mark (read_all did.sent))) →
-    SeatMakes sa sb p old (seat_posted mark l (link_done what l s.link word) s) a b
-post sa sb p what l word mark old s a b did is spoken kept makes =
-    let done = link_done what l s.link word in
-    let frames = pushes_on l done.out in
-    let g = ledger_at s.ledgers p in
-    let ps = read_all did.sent in
-    let sent = marked_frames s.ledgers mark frames in
-    let ledger : noted_all g ps ≡ ledger_at (noted_frames s.ledgers frames) p = sym (noted-frames s.ledgers p frames ∙ ap (noted_all g) is.sent) in
-    let out : stamped g mark ps ≡ only p sent = sym (marked-frames s.ledgers p mark frames ∙ ap (stamped g mark) is.sent) in
-    let now = ledger_at (noted_frames s.ledgers frames) p in
-    let before : Makes sa sb (seat_duet p a old b) (duet_with did.auto now b (only p s.incoming) (only p s.outgoing ++ only p sent)) =
-    record { events = makes.events; first = makes.first; leads = makes.leads ∙ (λ i. duet_with did.auto (ledger i) b (only p s.incoming) (only p s.outgoing ++ out i)) } in
+    SeatMakes sa sb p old (seat_posted mark now frames s) a b
+post sa sb p mark old s now frames a b did is same spoken kept makes =
+    let out = goes-out sa sb p mark s now frames did.auto b (read_all did.sent) is.sent kept in
     record {
       auto = did.auto;
-      end = record {
-        spoken = subst (IsSpoken sa p) (sym (done-tables what l word s.link)) spoken;
-        auto = is.auto;
-        kept = subst (λ g. IsLedgerOf did.auto g) ledger kept;
-      };
-      makes = makes-then sa sb _ _ _ before (queued-leads sa sb (end_of did.auto now) b (only p s.incoming) p s.outgoing sent);
+      end = record { spoken = subst (IsSpoken sa p) (sym same) spoken; auto = is.auto; kept = out.kept };
+      makes = makes-then sa sb _ _ _ makes out.leads;
     }
 
--- ---- an event that brings no frame
+-- ---- orders that bring no frame, on the link of the event or another
 
-pub happens-makes : (sa sb : Setup) (p : Proto) (what : Happening) (l word : ℕ) (s : Seat) (a : Auto) (b : End) → IsNoFrame what →
-    AreShort (link_done what l s.link word).out → IsEnd sa p s a → SeatMakes sa sb p s (seat_happens what l word s) a b
-unfolding orders
-happens-makes sa sb p what l word s a b quiet short end =
-    let k = s.link in
-    let os = orders p what k word in
-    let none = none-append (of_link p what k word) (all_caused p (link_does what k word).out) (link-none p what k word quiet) (all-none p (link_does what k word).out) in
-    let obeys = orders-run sa sb a (ledger_at s.ledgers p) 0 word b (only p s.incoming) (only p s.outgoing) os none end.kept in
-    post sa sb p what l word 0 s s a b (obeys_all sa.table word os a) (is-done sa p what l word k a short end.spoken.table end.auto) end.spoken obeys.kept (leads-makes sa sb _ _ obeys.events)
+pub quiet-makes : (sa sb : Setup) (p : Proto) (what : Happening) (l m word mark : ℕ) (rs : List Run) (s : Seat) (now : Link) (out : List Entry) (a : Auto) (b : End) →
+    None_in (orders_at l m p what rs s.link word) → Moves l m what rs word s.link now out → IsEnd sa p s a → SeatMakes sa sb p s (seat_posted mark now (pushes_on m out) s) a b
+quiet-makes sa sb p what l m word mark rs s now out a b none moves end =
+    let os = orders_at l m p what rs s.link word in
+    let obeys = orders-run sa sb a (ledger_at s.ledgers p) mark word b (only p s.incoming) (only p s.outgoing) os none end.kept in
+    post sa sb p mark s s now (pushes_on m out) a b (obeys_all sa.table word os a) (is-done sa p what l m word rs s.link now out a moves end.spoken.table end.auto) moves.tables end.spoken obeys.kept
+    (leads-makes sa sb _ _ obeys.events)
 
 -- ---- the front frame is taken
 
@@ -352,25 +366,25 @@ took-by sa sb p word f rest s a b read os more settled sent kept is (inr heard) 
     subst (λ n. Took sa sb p a g n f.mark b (seen p f ++ only p rest) (only p rest) (only p s.outgoing) (obeys_all sa.table word (os ++ more) a)) (sym same)
     (subst (λ os. Took sa sb p a g (heard_packet g (Some a) f.mark (packet_of heard.info)) f.mark b (seen p f ++ only p rest) (only p rest) (only p s.outgoing) (obeys_all sa.table word (os ++ more) a)) (sym heard.is) did)
 
-took : (sa sb : Setup) (p : Proto) (word : ℕ) (f : Frame) (rest : List Frame) (s : Seat) (a : Auto) (b : End) → IsSettled s.link → IsSent f.octets → IsEnd sa p s a →
-    Took sa sb p a (ledger_at s.ledgers p) (ledger_at (heard_on s.link f word s.ledgers) p) f.mark b (seen p f ++ only p rest) (only p rest) (only p s.outgoing) (obeys_all sa.table word (orders p (Takes f.octets) s.link word) a)
-unfolding orders
-took sa sb p word f rest s a b settled sent end =
+took : (sa sb : Setup) (p : Proto) (word : ℕ) (f : Frame) (rest : List Frame) (s : Seat) (a : Auto) (b : End) (more : List Order) → IsSettled s.link → IsSent f.octets → IsEnd sa p s a → None_in more →
+    Took sa sb p a (ledger_at s.ledgers p) (ledger_at (heard_on s.link f word s.ledgers) p) f.mark b (seen p f ++ only p rest) (only p rest) (only p s.outgoing) (obeys_all sa.table word (of_link p (Takes f.octets) s.link word ++ more) a)
+took sa sb p word f rest s a b more settled sent end none =
     let k = s.link in
     let read = (feed_step (read_by k.automata.lcp k.deframer) f.octets).left.frame in
     let now = heard-at k f word s.ledgers p ∙ ap (λ o. heard_by (ledger_at s.ledgers p) o f.mark (of_link p (Takes f.octets) k word)) end.auto in
-    took-by sa sb p word f rest s a b read (of_read p k.tables word read k.automata) (all_caused p (link_does (Takes f.octets) k word).out)
-    settled sent end.kept refl (read-orders p k.tables word read k.automata) (all-none p (link_does (Takes f.octets) k word).out) now
+    took-by sa sb p word f rest s a b read (of_read p k.tables word read k.automata) more settled sent end.kept refl (read-orders p k.tables word read k.automata) none now
 
-pub taking-makes : (sa sb : Setup) (p : Proto) (l word : ℕ) (f : Frame) (rest : List Frame) (s : Seat) (a : Auto) (b : End) → s.incoming ≡ f ∷ rest → IsSettled s.link → IsSent f.octets →
-    AreShort (link_done (Takes f.octets) l s.link word).out → IsEnd sa p s a → SeatMakes sa sb p s (seat_taking l word f rest s) a b
-taking-makes sa sb p l word f rest s a b front settled sent short end =
+pub taking-makes : (sa sb : Setup) (p : Proto) (l word : ℕ) (rs : List Run) (f : Frame) (rest : List Frame) (s : Seat) (now : Link) (out : List Entry) (a : Auto) (b : End) → s.incoming ≡ f ∷ rest →
+    IsSettled s.link → IsSent f.octets → Moves l l (Takes f.octets) rs word s.link now out → IsEnd sa p s a → SeatMakes sa sb p s (seat_posted f.mark now (pushes_on l out) (seat_heard word f rest s)) a b
+taking-makes sa sb p l word rs f rest s now out a b front settled sent moves end =
     let k = s.link in
-    let did = obeys_all sa.table word (orders p (Takes f.octets) k word) a in
-    let took = took sa sb p word f rest s a b settled sent end in
+    let what = Takes f.octets in
+    let os = of_link p what k word ++ of_runs l p rs in
+    let did = obeys_all sa.table word os a in
+    let took = took sa sb p word f rest s a b (of_runs l p rs) settled sent end (runs-none l p rs) in
     let queue : seat_duet p a s b ≡ duet_with a (ledger_at s.ledgers p) b (seen p f ++ only p rest) (only p s.outgoing) = ap (λ frames. duet_with a (ledger_at s.ledgers p) b (only p frames) (only p s.outgoing)) front in
-    let heard : Seat = record s { ledgers = heard_on k f word s.ledgers; incoming = rest } in
-    post sa sb p (Takes f.octets) l word f.mark s heard a b did (is-done sa p (Takes f.octets) l word k a short end.spoken.table end.auto) end.spoken took.kept
+    let done = subst (λ own. IsDone p now (pushes_on l out) (obeys_all sa.table word (own ++ of_runs l p rs) a)) (own-here l p what k word) (is-done sa p what l l word rs k now out a moves end.spoken.table end.auto) in
+    post sa sb p f.mark s (seat_heard word f rest s) now (pushes_on l out) a b did done moves.tables end.spoken took.kept
     (record { events = took.makes.events; first = took.makes.first; leads = ap (run sa sb took.makes.events) queue ∙ took.makes.leads })
 
 -- ---- a frame is lost

@@ -1,9 +1,15 @@
--- All lines of an end go down, one after the other.
-use Rattle.std.specs.Prelude.{◌≡◌, ℕ, ◌-◌, ◌≤◌, List, Some, slice_get}
-use Rattle.ppp_link.specs.Link.{Link}
+-- Lines of an end go down, one after the other.
+use Rattle.std.specs.Prelude.{ℕ, zero, suc, ◌+◌, length}
+use Rattle.ppp_station.specs.Station.{Station, on_link}
 use Rattle.ppp_station.specs.StationOut.{AreShort}
-use Rattle.ppp_station.specs.Steps.{LineDown, link_done}
+use Rattle.ppp_station.specs.Steps.{LineDown}
 
--- no frame that a line going down sends is longer than the longest
-abbrev pub AreShortDowns : ℕ → List Link → Type 0
-AreShortDowns word links = (m : ℕ) (k : Link) → 1 ≤ m → slice_get links (m - 1) ≡ Some k → AreShort (link_done LineDown m k word).out
+-- so many lines, from that number on: none of them sends a frame longer than the longest, each from the station before it
+abbrev pub AreShortDowns : ℕ → ℕ → ℕ → Station → Type 0
+AreShortDowns word zero l st = Unit {0}
+AreShortDowns word (suc more) l st =
+    AreShort (on_link LineDown l st word).out.entries × AreShortDowns word more (l + 1) (on_link LineDown l st word).station
+
+-- all its lines
+abbrev pub AllShortDowns : ℕ → Station → Type 0
+AllShortDowns word st = AreShortDowns word (length st.links) 1 st

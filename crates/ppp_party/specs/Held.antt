@@ -1,6 +1,6 @@
 -- What holds of a protocol on a link in each state of a world, whether both ends speak it or not, and what an event at an end
 -- makes of it.
-use Rattle.std.specs.Prelude.{◌≡◌, ◌≢◌, ◌≤◌, ◌⊎◌, ℕ, [], length, None}
+use Rattle.std.specs.Prelude.{◌≡◌, ◌≤◌, ◌⊎◌, ℕ, [], length, None}
 use Rattle.ppp_duet.specs.Duet.{Setup}
 use Rattle.ppp_link.specs.Automata.{auto_at, automata_begun}
 use Rattle.ppp_packet.specs.declared.proto.Proto.{Proto}
@@ -35,10 +35,9 @@ pub record IsLone (m : ℕ) (p : Proto) (e : Ends) : Type 0 where
 abbrev pub IsHeld : ℕ → Proto → Ends → Type 0
 IsHeld m p e = KeptOn m p e ⊎ (IsLone m p e ⊎ IsLone m p (turned e))
 
--- What an event of the first end on a link makes of a protocol on a link: it is held again; where the event draws no ordinal for
--- it, no span becomes too wide; and it draws none at the other end, nor on another link.
-pub record HeldAfter (l m : ℕ) (p : Proto) (before after : Ends) : Type 0 where
+-- What an event of the first end, on whatever link, makes of a protocol on a link: it is held again; where the event draws no
+-- ordinal for it there, no span becomes too wide; and it draws none at the other end.
+pub record HeldAfter (m : ℕ) (p : Proto) (before after : Ends) : Type 0 where
   pub held : IsHeld m p after
   pub narrow : sent_on m p after.own ≤ sent_on m p before.own → NarrowOn m p after
   pub other : sent_on m p after.other ≡ sent_on m p before.other
-  pub elsewhere : m ≢ l → sent_on m p after.own ≡ sent_on m p before.own

@@ -8,14 +8,14 @@ use Rattle.ppp_duet.specs.Duet.{without}
 use Rattle.ppp_link.specs.Automata.{auto_at}
 use Rattle.ppp_link.specs.Link.{Link}
 use Rattle.ppp_station.specs.Orders.{Order, Hears, of_link}
-use Rattle.ppp_station.specs.Station.{Stepped, link_ready, on_link}
+use Rattle.ppp_station.specs.Station.{Station, Stepped, on_link, station_anew}
 use Rattle.ppp_station.specs.StationOut.{Entry, Push, Got, Hang}
 use Rattle.ppp_station.specs.Steps.{Happening, LineDown, Takes}
 use Rattle.ppp_party.specs.Frame.{Frame, marked_frames, noted_frames}
 use Rattle.ppp_party.specs.Ledger.{Ledger, Ledgers, heard, ledger_at, ledgers_begun, ledgers_by}
 
 pub record Party : Type 0 where
-  pub links : List Link
+  pub station : Station
   pub ledgers : List Ledgers
   pub incoming : List (List Frame)
 
@@ -23,11 +23,15 @@ pub record Party : Type 0 where
 abbrev pub room : ℕ
 room = 1024
 
--- as many ledgers and queues as links, and no queue too long
+-- no queue is too long
+abbrev pub AreRoomy : List (List Frame) → Type 0
+AreRoomy queues = AllByRecursion (λ queue. length queue ≤ room) queues
+
+-- as many ledgers and queues as links
 pub record IsParty (e : Party) : Type 0 where
-  pub ledgers : length e.ledgers ≡ length e.links
-  pub incoming : length e.incoming ≡ length e.links
-  pub few : AllByRecursion (λ queue. length queue ≤ room) e.incoming
+  pub ledgers : length e.ledgers ≡ length e.station.links
+  pub incoming : length e.incoming ≡ length e.station.links
+  pub few : AreRoomy e.incoming
 
 -- the first link with a frame under way to the end, from that number on
 abbrev pub first_busy : ℕ → List (List Frame) → Option ℕ
@@ -68,7 +72,7 @@ pub record Ends : Type 0 where
 -- the station's step is done, and what goes out is noted and under way, behind a frame of that mark
 abbrev pub posted : ℕ → Stepped → Ends → Ends
 posted mark step e = record {
-  own = record e.own { links = step.links; ledgers = each_noted 1 step.out.entries e.own.ledgers };
+  own = record e.own { station = step.station; ledgers = each_noted 1 step.out.entries e.own.ledgers };
   other = record e.other { incoming = each_queued 1 mark step.out.entries e.own.ledgers e.other.incoming };
 }
 
@@ -76,7 +80,7 @@ posted mark step e = record {
 
 -- something that brings no frame
 unfoldable pub happens : Happening → ℕ → ℕ → Ends → Ends
-happens what l word e = posted 0 (on_link what l e.own.links word) e
+happens what l word e = posted 0 (on_link what l e.own.station word) e
 
 -- at a link, from 1 on
 abbrev pub at_link : {X : Type 0} → ℕ → (X → X) → List X → List X
@@ -105,7 +109,8 @@ with_heard l word f rest None e = e
 
 abbrev pub taking : ℕ → ℕ → Frame → List Frame → Ends → Ends
 taking l word f rest e =
-    posted f.mark (on_link (Takes f.octets) l e.own.links word) (record e { own = with_heard l word f rest (slice_get e.own.links (l - 1)) e.own })
+    posted f.mark (on_link (Takes f.octets) l e.own.station word)
+    (record e { own = with_heard l word f rest (slice_get e.own.station.links (l - 1)) e.own })
 
 abbrev pub taking_front : ℕ → ℕ → Option (List Frame) → Ends → Ends
 taking_front l word None e = e
@@ -122,11 +127,11 @@ loses l place e = record e { own = record e.own { incoming = at_link l (without 
 
 -- ---- an end begins anew
 
--- as it begins, with these links
-abbrev pub party_begun : List Link → Party
-party_begun links = record { links = links; ledgers = map (λ k. ledgers_begun) links; incoming = map (λ k. []) links }
+-- as it begins, with that station
+abbrev pub party_begun : Station → Party
+party_begun st = record { station = st; ledgers = map (λ k. ledgers_begun) st.links; incoming = map (λ k. []) st.links }
 
-abbrev pub ends_begun : List Link → List Link → Ends
+abbrev pub ends_begun : Station → Station → Ends
 ends_begun own other = record { own = party_begun own; other = party_begun other }
 
 -- what the other end has heard of counts no longer, and nothing is under way to it
@@ -134,7 +139,7 @@ abbrev pub unheard : Ledgers → Ledgers
 unheard gs = ledgers_by (λ p. record (ledger_at gs p) { got = 0 })
 
 abbrev pub cleared : Party → Party
-cleared e = record { links = e.links; ledgers = map unheard e.ledgers; incoming = map (λ queue. []) e.incoming }
+cleared e = record { station = e.station; ledgers = map unheard e.ledgers; incoming = map (λ queue. []) e.incoming }
 
 -- so many lines go down, from that number on
 abbrev pub downs : ℕ → ℕ → ℕ → Ends → Ends
@@ -147,7 +152,7 @@ turned e = record { own = e.other; other = e.own }
 -- What is under way both ways is lost, the station begins anew, and the other end sees its lines go down, one after the other.
 unfoldable pub reboots : ℕ → Ends → Ends
 reboots word e =
-    turned (downs (length e.other.links) 1 word (record {
+    turned (downs (length e.other.station.links) 1 word (record {
       own = cleared e.other;
-      other = party_begun (map (λ k. link_ready k.tables) e.own.links);
+      other = party_begun (station_anew e.own.station);
     }))

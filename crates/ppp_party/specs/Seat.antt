@@ -1,6 +1,6 @@
--- One link of an end: its station's link, its ledgers, and the frames under way on it both ways; and what an event on the link
--- makes of these. It is what two ends of one protocol on one link are read off.
-use Rattle.std.specs.Prelude.{◌≡◌, ℕ, ◌+◌, ◌-◌, ◌≤◌, ⊤, List, [], ◌∷◌, length, Some, slice_get}
+-- One link of an end: its station's link, its ledgers, and the frames under way on it both ways; and what an event at the end,
+-- on that link or another, makes of these. It is what two ends of one protocol on one link are read off.
+use Rattle.std.specs.Prelude.{◌≡◌, ℕ, ◌+◌, ◌-◌, ◌≤◌, ⊤, List, length, Some, slice_get}
 use Rattle.std.specs.List.{AllByRecursion}
 use Rattle.ppp_auto.specs.Auto.{Auto}
 use Rattle.ppp_duet.specs.Duet as duet
@@ -14,12 +14,12 @@ use Rattle.ppp_link.specs.Automata.{auto_at, automata_begun}
 use Rattle.ppp_link.specs.Link.{Link}
 use Rattle.ppp_link.specs.LinkTables.{LinkTables, table_of}
 use Rattle.ppp_link.specs.declared.link.TheConstants.{MOST_FRAME}
-use Rattle.ppp_station.specs.Phases.{IsPhased}
-use Rattle.ppp_station.specs.Steps.{Done, Happening, LineUp, LineDown, Opens, Closes, TimesOut, Takes, link_done}
+use Rattle.ppp_station.specs.Phases.{IsStation}
+use Rattle.ppp_station.specs.Steps.{Happening, LineUp, LineDown, Opens, Closes, TimesOut, Takes}
 use Rattle.ppp_party.specs.Events.{Leads, Makes}
 use Rattle.ppp_party.specs.Frame.{Frame, marked_frames, noted_frames, only}
 use Rattle.ppp_party.specs.Ledger.{Ledgers, IsLedgerOf, end_of, ledger_at, first_id}
-use Rattle.ppp_party.specs.Party.{Ends, heard_on, pushes_on, queued, room, turned}
+use Rattle.ppp_party.specs.Party.{Ends, heard_on, queued, room, turned}
 
 pub record Seat : Type 0 where
   pub link : Link
@@ -29,32 +29,25 @@ pub record Seat : Type 0 where
 
 -- that link of an end, and of the frames under way to the other
 pub record SeatAt (m : ℕ) (e : Ends) (s : Seat) : Type 0 where
-  pub link : slice_get e.own.links (m - 1) ≡ Some s.link
+  pub link : slice_get e.own.station.links (m - 1) ≡ Some s.link
   pub ledgers : slice_get e.own.ledgers (m - 1) ≡ Some s.ledgers
   pub incoming : slice_get e.own.incoming (m - 1) ≡ Some s.incoming
   pub outgoing : slice_get e.other.incoming (m - 1) ≡ Some s.outgoing
 
--- ---- what happens on the link
+-- ---- what happens at the end
 
--- the station's step is done, and what goes out is noted and under way, behind a frame of that mark
-abbrev pub seat_posted : ℕ → ℕ → Done → Seat → Seat
-seat_posted mark l done s = record {
-  link = done.link;
-  ledgers = noted_frames s.ledgers (pushes_on l done.out);
+-- the link is as the station's step leaves it, and what goes out on it is noted and under way, behind a frame of that mark
+abbrev pub seat_posted : ℕ → Link → List (List ℕ) → Seat → Seat
+seat_posted mark now frames s = record {
+  link = now;
+  ledgers = noted_frames s.ledgers frames;
   incoming = s.incoming;
-  outgoing = queued s.outgoing (marked_frames s.ledgers mark (pushes_on l done.out));
+  outgoing = queued s.outgoing (marked_frames s.ledgers mark frames);
 }
 
-abbrev pub seat_happens : Happening → ℕ → ℕ → Seat → Seat
-seat_happens what l word s = seat_posted 0 l (link_done what l s.link word) s
-
-abbrev pub seat_taking : ℕ → ℕ → Frame → List Frame → Seat → Seat
-seat_taking l word f rest s =
-    seat_posted f.mark l (link_done (Takes f.octets) l s.link word) (record s { ledgers = heard_on s.link f word s.ledgers; incoming = rest })
-
-abbrev pub seat_delivers : ℕ → ℕ → List Frame → Seat → Seat
-seat_delivers l word [] s = s
-seat_delivers l word (f ∷ rest) s = seat_taking l word f rest s
+-- a frame is taken out of its queue and heard of
+abbrev pub seat_heard : ℕ → Frame → List Frame → Seat → Seat
+seat_heard word f rest s = record s { ledgers = heard_on s.link f word s.ledgers; incoming = rest }
 
 abbrev pub seat_loses : ℕ → Seat → Seat
 seat_loses place s = record s { incoming = without place s.incoming }
@@ -81,11 +74,10 @@ pub record IsSent (octets : List ℕ) : Type 0 where
 abbrev pub AreSent : List Frame → Type 0
 AreSent frames = AllByRecursion (λ f. IsSent f.octets) frames
 
--- between two frames the deframer stands as after a flag, and control protocols are Up exactly while LCP is Opened
+-- between two frames the deframer stands as after a flag
 pub record IsSettled (k : Link) : Type 0 where
   pub stands : k.deframer.standing ≡ fresh
   pub limit : k.deframer.reader.limit ≡ MOST_FRAME
-  pub phased : IsPhased k
 
 pub record IsWell (s : Seat) : Type 0 where
   pub settled : IsSettled s.link
@@ -112,8 +104,9 @@ pub record IsEnd (sa : Setup) (p : Proto) (s : Seat) (a : Auto) : Type 0 where
 abbrev pub seat_duet : Proto → Auto → Seat → End → Duet
 seat_duet p a s b = record { a = end_of a (ledger_at s.ledgers p); b = b; to_a = only p s.incoming; to_b = only p s.outgoing }
 
--- a protocol is configured on that link of an end, with that automaton, and all is well there
+-- a protocol is configured on that link of an end, with that automaton, and all is well there and at the end's station
 pub record IsSeated (sa : Setup) (p : Proto) (m : ℕ) (e : Ends) (s : Seat) (a : Auto) : Type 0 where
+  pub station : IsStation e.own.station
   pub at : SeatAt m e s
   pub well : IsWell s
   pub end : IsEnd sa p s a

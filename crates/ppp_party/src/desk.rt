@@ -1,10 +1,11 @@
 //! What an end works with.
 
 ghost use Rattle.std.specs.Prelude.{◌≡◌, ◌≤◌, ◌^◌, ◌∷◌, [], length, OnOk};
-ghost use Rattle.ppp_party.specs.Counted.{IsCounted};
+ghost use Rattle.ppp_party.specs.Counted.{AllCounted, IsCounted};
 ghost use Rattle.ppp_party.specs.Frame.{marked_frames, noted_frames};
-ghost use Rattle.ppp_party.specs.Party.{push_on, pushes_on, queued, room};
+ghost use Rattle.ppp_party.specs.Party.{each_noted, each_queued, queued, room, AreRoomy};
 ghost use Rattle.ppp_party.specs.Reader.{IsOpen};
+ghost use Rattle.ppp_station.specs.Moves.{AreLinked, IsLinked};
 ghost use Rattle.ppp_station.specs.StationOut.{entry_seen};
 ghost use Rattle.ppp_station.specs.declared.station_out.TheConstants.{MOST_ENTRIES};
 
@@ -37,59 +38,60 @@ impl Desk {
     }
 }
 
-/// Notes the frames of a list that go out on a link, and puts them into a queue, behind a frame of that mark.
+/// Notes the frames of a list, each in the ledgers of its link, and puts them into the link's queue, behind a frame of that mark.
 pub(crate) fn post(
     out: &StationOut,
     reader: &mut Deframer,
-    link: u8,
     mark: u64,
-    ledgers: &mut Ledgers,
-    queue: &mut Queue,
+    ledgers: &mut Vec<Ledgers>,
+    incoming: &mut Vec<Queue>,
 ) -> Result<(), Memory>
     requires reader { IsOpen reader.old }
     requires few { length out.now.entries ≤ MOST_ENTRIES }
-    requires counted { IsCounted (2 ^ 62) ledgers.old }
-    requires queue { length queue.old ≤ room }
+    requires linked { AreLinked (length ledgers.old.items) out.now.entries }
+    requires alike { length incoming.old.items ≡ length ledgers.old.items }
+    requires counted { AllCounted (2 ^ 62) ledgers.old.items }
+    requires queues { AreRoomy incoming.old.items }
     ensures reader { IsOpen reader.new }
-    ensures ledgers { OnOk result (ledgers.new ≡ noted_frames ledgers.old (pushes_on link out.now.entries)) }
-    ensures queue { OnOk result (queue.new
-        ≡ queued queue.old (marked_frames ledgers.old mark (pushes_on link out.now.entries))) }
-    ensures few { length queue.new ≤ room }
+    ensures ledgers { OnOk result (ledgers.new.items ≡ each_noted 1 out.now.entries ledgers.old.items) }
+    ensures incoming { OnOk result (incoming.new.items
+        ≡ each_queued 1 mark out.now.entries ledgers.old.items incoming.old.items) }
+    ensures few { AreRoomy incoming.new.items }
+    ensures count { length ledgers.new.items ≡ length ledgers.old.items }
+    ensures queues { length incoming.new.items ≡ length incoming.old.items }
 {
     for i in 0..out.count() {
-        post_entry(out.at(i), reader, link, mark, ledgers, queue)?;
+        post_entry(out.at(i), reader, mark, ledgers, incoming)?;
     }
     Ok(())
 }
 
-/// Notes an entry and puts it into a queue, if it is a frame that goes out on that link.
+/// Notes an entry and puts it into a queue, if it is a frame that goes out.
 fn post_entry(
     entry: StationEntry<'_>,
     reader: &mut Deframer,
-    link: u8,
     mark: u64,
-    ledgers: &mut Ledgers,
-    queue: &mut Queue,
+    ledgers: &mut Vec<Ledgers>,
+    incoming: &mut Vec<Queue>,
 ) -> Result<(), Memory>
     requires reader { IsOpen reader.old }
-    requires counted { IsCounted (2 ^ 63) ledgers.old }
-    requires queue { length queue.old ≤ room }
+    requires linked { IsLinked (length ledgers.old.items) (entry_seen entry) }
+    requires alike { length incoming.old.items ≡ length ledgers.old.items }
+    requires counted { AllCounted (2 ^ 63) ledgers.old.items }
+    requires queues { AreRoomy incoming.old.items }
     ensures reader { IsOpen reader.new }
-    ensures ledgers { OnOk result (ledgers.new ≡ noted_frames ledgers.old (push_on link (entry_seen entry.entry))) }
-    ensures queue { OnOk result (queue.new
-        ≡ queued queue.old (marked_frames ledgers.old mark (push_on link (entry_seen entry.entry)))) }
-    ensures few { length queue.new ≤ room }
+    ensures ledgers { OnOk result (ledgers.new.items ≡ each_noted 1 (entry_seen entry.entry ∷ []) ledgers.old.items) }
+    ensures incoming { OnOk result (incoming.new.items
+        ≡ each_queued 1 mark (entry_seen entry.entry ∷ []) ledgers.old.items incoming.old.items) }
+    ensures few { AreRoomy incoming.new.items }
+    ensures count { length ledgers.new.items ≡ length ledgers.old.items }
+    ensures queues { length incoming.new.items ≡ length incoming.old.items }
 {
-    match entry {
-        StationEntry::Push { link: on, octets } => {
-            if on == link {
-                post_frame(octets, reader, mark, ledgers, queue)
-            } else {
-                Ok(())
-            }
-        }
-        StationEntry::Got { .. } | StationEntry::Hang(_) => Ok(()),
-    }
+    let StationEntry::Push { link, octets } = entry else {
+        return Ok(());
+    };
+    let i = usize::from(link) - 1;
+    post_frame(octets, reader, mark, &mut ledgers[i], &mut incoming[i])
 }
 
 /// Notes a frame and puts it into a queue.

@@ -2,6 +2,7 @@
 
 ghost use Rattle.std.specs.Prelude.{◌≡◌, ◌≤◌, length};
 ghost use Rattle.ppp_party.specs.Happening.{happening_seen};
+ghost use Rattle.ppp_station.specs.Moves.{AreLinked};
 ghost use Rattle.ppp_station.specs.Station.{on_link, IsOfLink};
 ghost use Rattle.ppp_station.specs.StationOut.{AreShort};
 ghost use Rattle.ppp_station.specs.declared.station_out.TheConstants.{MOST_ENTRIES};
@@ -32,11 +33,12 @@ pub(crate) fn happen_at(
     word: u64,
     out: &mut StationOut,
 )
-    requires { IsOfLink (length station.old) link }
-    ensures links { station.new ≡ (on_link (happening_seen what) link station.old word).links }
+    requires { IsOfLink (length station.old.links) link }
+    ensures station { station.new ≡ (on_link (happening_seen what) link station.old word).station }
     ensures out { out.new ≡ (on_link (happening_seen what) link station.old word).out }
     ensures short { AreShort out.new.entries }
     ensures few { length out.new.entries ≤ MOST_ENTRIES }
+    ensures linked { AreLinked (length station.new.links) out.new.entries }
 {
     match what {
         Happening::LineUp => station.event(StationEvent::Up(link), word, out),

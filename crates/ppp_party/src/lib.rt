@@ -13,7 +13,7 @@
 //! The laws on two ends of one protocol (`ppp_duet`) speak of packets. That each event at an end is a list of their events, for
 //! every protocol on every link, is what stands in [`laws`], whose functions do nothing.
 //!
-//! Left out: bundles, and datagrams that are sent.
+//! Left out: BAP, and datagrams that are sent.
 #![tactic(auto)]
 
 mod about;

@@ -4,15 +4,16 @@ ghost use Rattle.std.specs.Prelude.{◌≡◌, ◌+◌, ◌*◌, ◌-◌, ◌^�
 ghost use Rattle.std.specs.Option.{IfSome};
 ghost use Rattle.ppp_conf.specs.EndConfig.{end_seen};
 ghost use Rattle.ppp_party.specs.Counted.{AreCounted};
-ghost use Rattle.ppp_link.specs.Link.{Link};
-ghost use Rattle.ppp_party.specs.Downs.{AreShortDowns};
+ghost use Rattle.ppp_party.specs.Downs.{AllShortDowns};
 ghost use Rattle.ppp_party.specs.Frame as way;
 ghost use Rattle.ppp_party.specs.Happening.{happening_seen};
 ghost use Rattle.ppp_party.specs.Ledger.{ledgers_begun};
 ghost use Rattle.ppp_party.specs.Party as spec;
-ghost use Rattle.ppp_party.specs.Party.{at_link, cleared, delivers, downs, first_busy, happens, heard_on, loses, party_begun, reboots, unheard};
+ghost use Rattle.ppp_party.specs.Party.{cleared, delivers, downs, first_busy, happens, heard_on, loses, party_begun, reboots, unheard};
 ghost use Rattle.ppp_party.specs.Spans.{oldest_on, sent_on};
-ghost use Rattle.ppp_station.specs.Station.{link_ready, on_link, BeginsBy, IsOfLink};
+ghost use Rattle.ppp_link.specs.Link.{Link};
+ghost use Rattle.ppp_station.specs.Moves.{AreLinked};
+ghost use Rattle.ppp_station.specs.Station.{on_link, BeginsBy, IsOfLink};
 ghost use Rattle.ppp_station.specs.StationOut.{AreShort};
 ghost use Rattle.ppp_station.specs.Steps.{Takes};
 ghost use Rattle.ppp_station.specs.declared.station_out.TheConstants.{MOST_ENTRIES};
@@ -44,16 +45,16 @@ impl Model for Party {
 
     ghost Value = { spec.Party };
 
-    ghost view = { λ p. record { links = p.station; ledgers = p.ledgers.items; incoming = p.incoming.items } };
+    ghost view = { λ p. record { station = p.station; ledgers = p.ledgers.items; incoming = p.incoming.items } };
 
-    ghost invariant = { λ p. spec.IsParty (record { links = p.station; ledgers = p.ledgers.items; incoming = p.incoming.items }) };
+    ghost invariant = { λ p. spec.IsParty (record { station = p.station; ledgers = p.ledgers.items; incoming = p.incoming.items }) };
 }
 
 impl Party {
     /// An end of these settings as it begins.
     pub fn new(alloc: Global, config: &EndConfig) -> Result<Party, Memory>
-        ensures begins { IfOk result (λ p. BeginsBy (end_seen config.now) p.links) }
-        ensures begun { IfOk result (λ p. p ≡ party_begun p.links) }
+        ensures begins { IfOk result (λ p. BeginsBy (end_seen config.now) p.station) }
+        ensures begun { IfOk result (λ p. p ≡ party_begun p.station) }
     {
         let station = Station::new(alloc, config)?;
         let mut ledgers = Vec::new(alloc);
@@ -71,14 +72,14 @@ impl Party {
 
     /// Its station.
     pub fn station(&self) -> &Station
-        ensures { result.now ≡ self.now.links }
+        ensures { result.now ≡ self.now.station }
     {
         &self.station
     }
 
     /// The ordinal of the last Configure-Request of a protocol that it sent on a link, 0 before the first.
     pub fn sent(&self, link: u8, proto: Proto) -> u64
-        requires { IsOfLink (length self.now.links) link }
+        requires { IsOfLink (length self.now.station.links) link }
         ensures { result ≡ sent_on link proto self.now }
     {
         self.ledgers[usize::from(link) - 1].sent(proto)
@@ -86,8 +87,8 @@ impl Party {
 
     /// The least ordinal of a request of this end that is under way itself, or whose answer is; the last one's, if none is.
     pub fn oldest(&self, other: &Party, link: u8, proto: Proto) -> u64
-        requires own { IsOfLink (length self.now.links) link }
-        requires other { IsOfLink (length other.now.links) link }
+        requires own { IsOfLink (length self.now.station.links) link }
+        requires other { IsOfLink (length other.now.station.links) link }
         ensures { result ≡ oldest_on link proto (record { own = self.now; other = other.now }) }
     {
         let i = usize::from(link) - 1;
@@ -98,7 +99,7 @@ impl Party {
     /// The first link with a frame under way to the end.
     pub fn first_busy(&self) -> Option<u8>
         ensures value { result ≡ first_busy 1 self.now.incoming }
-        ensures within { IfSome result (λ l. IsOfLink (length self.now.links) l) }
+        ensures within { IfSome result (λ l. IsOfLink (length self.now.station.links) l) }
     {
         for i in 0..self.station.links() {
             if !self.incoming[usize::from(i)].is_empty() {
@@ -117,23 +118,21 @@ impl Party {
         link: u8,
         word: u64,
     ) -> Result<(), Memory>
-        requires link { IsOfLink (length self.old.links) link }
-        requires alike { length other.old.links ≡ length self.old.links }
+        requires link { IsOfLink (length self.old.station.links) link }
+        requires alike { length other.old.station.links ≡ length self.old.station.links }
         requires few { AreCounted (2 ^ 62) self.old }
         ensures done { OnOk result (record { own = self.new; other = other.new }
             ≡ happens (happening_seen what) link word (record { own = self.old; other = other.old })) }
-        ensures short { AreShort (on_link (happening_seen what) link self.old.links word).out.entries }
+        ensures short { AreShort (on_link (happening_seen what) link self.old.station word).out.entries }
         ensures counted { (n : ℕ) → AreCounted n self.old → OnOk result (AreCounted (n + MOST_ENTRIES) self.new) }
     {
-        let i = usize::from(link) - 1;
         happen_at(&mut self.station, what, link, word, &mut desk.out);
         post(
             &desk.out,
             &mut desk.reader,
-            link,
             0,
-            &mut self.ledgers[i],
-            &mut other.incoming[i],
+            &mut self.ledgers,
+            &mut other.incoming,
         )
     }
 
@@ -146,41 +145,39 @@ impl Party {
         link: u8,
         word: u64,
     ) -> Result<(), Memory>
-        requires link { IsOfLink (length self.old.links) link }
-        requires alike { length other.old.links ≡ length self.old.links }
+        requires link { IsOfLink (length self.old.station.links) link }
+        requires alike { length other.old.station.links ≡ length self.old.station.links }
         requires few { AreCounted (2 ^ 62) self.old }
         ensures done { OnOk result (record { own = self.new; other = other.new }
             ≡ delivers link word (record { own = self.old; other = other.old })) }
         ensures short { (f : way.Frame) (rest : List way.Frame) → slice_get self.old.incoming (link - 1) ≡ Some (f ∷ rest)
-            → AreShort (on_link (Takes f.octets) link self.old.links word).out.entries }
+            → AreShort (on_link (Takes f.octets) link self.old.station word).out.entries }
         ensures counted { (n : ℕ) → AreCounted n self.old → OnOk result (AreCounted (n + MOST_ENTRIES) self.new) }
     {
         let i = usize::from(link) - 1;
         let Some(frame) = self.incoming[i].pop() else {
             return Ok(());
         };
-        let ledgers = &mut self.ledgers[i];
         take(
             &mut self.station,
             &frame,
             link,
             word,
             &mut desk.out,
-            ledgers,
+            &mut self.ledgers[i],
         );
         post(
             &desk.out,
             &mut desk.reader,
-            link,
             frame.mark(),
-            ledgers,
-            &mut other.incoming[i],
+            &mut self.ledgers,
+            &mut other.incoming,
         )
     }
 
     /// The frame of that place under way to the end on a link is lost, from 1 on, if there is one.
     pub fn lose(&mut self, link: u8, place: u16)
-        requires { IsOfLink (length self.old.links) link }
+        requires { IsOfLink (length self.old.station.links) link }
         ensures { (o : spec.Party) → record { own = self.new; other = o }
             ≡ loses link place (record { own = self.old; other = o }) }
     {
@@ -189,11 +186,11 @@ impl Party {
 
     /// The end begins anew, and the other sees its lines go down. What is under way both ways is lost.
     pub fn reboot(&mut self, other: &mut Party, desk: &mut Desk, word: u64) -> Result<(), Memory>
-        requires alike { length other.old.links ≡ length self.old.links }
+        requires alike { length other.old.station.links ≡ length self.old.station.links }
         requires few { AreCounted (2 ^ 61) other.old }
         ensures done { OnOk result (record { own = self.new; other = other.new }
             ≡ reboots word (record { own = self.old; other = other.old })) }
-        ensures short { OnOk result (AreShortDowns word other.old.links) }
+        ensures short { OnOk result (AllShortDowns word other.old.station) }
         ensures counted { OnOk result (AreCounted 0 self.new) }
         ensures others { (n : ℕ) → AreCounted n other.old → OnOk result (AreCounted (n + 16 * MOST_ENTRIES) other.new) }
     {
@@ -205,7 +202,7 @@ impl Party {
 
     /// Nothing was counted yet, and nothing is under way to the end.
     fn begin(&mut self)
-        ensures { self.new ≡ party_begun self.old.links }
+        ensures { self.new ≡ party_begun self.old.station }
     {
         begin(&mut self.ledgers);
         empty(&mut self.incoming);
@@ -221,11 +218,11 @@ impl Party {
 
     /// All lines go down, one after the other.
     fn go_down(&mut self, other: &mut Party, desk: &mut Desk, word: u64) -> Result<(), Memory>
-        requires alike { length other.old.links ≡ length self.old.links }
+        requires alike { length other.old.station.links ≡ length self.old.station.links }
         requires few { AreCounted (2 ^ 61) self.old }
         ensures done { OnOk result (record { own = self.new; other = other.new }
-            ≡ downs (length self.old.links) 1 word (record { own = self.old; other = other.old })) }
-        ensures short { OnOk result (AreShortDowns word self.old.links) }
+            ≡ downs (length self.old.station.links) 1 word (record { own = self.old; other = other.old })) }
+        ensures short { OnOk result (AllShortDowns word self.old.station) }
         ensures counted { (n : ℕ) → AreCounted n self.old → OnOk result (AreCounted (n + 16 * MOST_ENTRIES) self.new) }
     {
         for i in 0..self.station.links() {
@@ -244,12 +241,13 @@ fn take(
     out: &mut StationOut,
     ledgers: &mut Ledgers,
 )
-    requires { IsOfLink (length station.old) link }
-    ensures links { station.new ≡ (on_link (Takes frame.now.octets) link station.old word).links }
+    requires { IsOfLink (length station.old.links) link }
+    ensures station { station.new ≡ (on_link (Takes frame.now.octets) link station.old word).station }
     ensures out { out.new ≡ (on_link (Takes frame.now.octets) link station.old word).out }
     ensures short { AreShort out.new.entries }
     ensures few { length out.new.entries ≤ MOST_ENTRIES }
-    ensures heard { (k : Link) → slice_get station.old (link - 1) ≡ Some k
+    ensures linked { AreLinked (length station.new.links) out.new.entries }
+    ensures heard { (k : Link) → slice_get station.old.links (link - 1) ≡ Some k
         → ledgers.new ≡ heard_on k frame.now word ledgers.old }
 {
     let states = States::of(station.link(link));

@@ -42,7 +42,7 @@ pub(crate) fn run_over(
 ) -> (Status, Vec<u8>) {
     let args = words_of(alloc, rt, words);
     let mut source = SureSource::new(octets_of(alloc, rt, input), 1_000);
-    let mut sink = SureSink::new(alloc, 1_000).expect(rt, "memory");
+    let mut sink = SureSink::new(alloc, 2_000).expect(rt, "memory");
     let status = run_surely(alloc, &args, &mut source, &mut sink);
     assert!(rt; !sink.is_past_room());
     (status, octets_of(alloc, rt, sink.octets()))
@@ -161,7 +161,7 @@ fn replays_what_was_worked_out(rt: HostRuntime) {
 #[test]
 fn replies_to_words_and_settings(rt: HostRuntime) {
     // words, an input, the status, and the output
-    let rows: [(&[&str], &str, Status, &str); 13] = [
+    let rows: [(&[&str], &str, Status, &str); 12] = [
         // both ends open
         (
             REPLAY,
@@ -180,18 +180,12 @@ fn replies_to_words_and_settings(rt: HostRuntime) {
             Status::BadConfig,
             "config version Range\n",
         ),
-        // and those that aren't built
-        (
-            REPLAY,
-            "version = 1\na.mrru = 1500\n---\nfly\n",
-            Status::NotBuilt,
-            "not built\n",
-        ),
+        // an end alone may speak multilink
         (
             REPLAY,
             "version = 1\nb.mrru = 8192\n---\nshow\n",
-            Status::NotBuilt,
-            "not built\n",
+            Status::Ok,
+            "show 1\n1 lcp Initial Initial - - - - agree -\n",
         ),
         // words that are no command's
         (&[], FIRST_RUN, Status::BadWords, USAGE),
@@ -214,7 +208,7 @@ fn feeds_what_was_worked_out(rt: HostRuntime) {
     // LCP without options, and IPCP
     let network = "version = 1\n[a]\nmagic = false\nprotocols = [\"ip\"]\nip = \"10.0.0.1\"\n---\n";
     // what stands before the lines, the lines, the status, and the output
-    let rows: [(&str, &str, Status, &str); 16] = [
+    let rows: [(&str, &str, Status, &str); 14] = [
         // a packet with an unknown code, before LCP is opened
         (
             single,
@@ -307,25 +301,13 @@ fn feeds_what_was_worked_out(rt: HostRuntime) {
             Status::BadLine(2),
             "line 2 Event\n",
         ),
-        // settings that are refused, and those that aren't built
+        // settings that are refused
         ("", "", Status::BadConfig, "config version Missing\n"),
         (
             "version = 1\na.ip = 1\n---\n",
             "fly\n",
             Status::BadConfig,
             "config a.ip Wrong\n",
-        ),
-        (
-            "version = 1\na.mrru = 1500\n---\n",
-            "fly\n",
-            Status::NotBuilt,
-            "not built\n",
-        ),
-        (
-            "version = 1\nb.mrru = 1500\n---\n",
-            "up 1\n",
-            Status::NotBuilt,
-            "not built\n",
         ),
     ];
     for (settings, lines, status, output) in rows {
@@ -510,7 +492,6 @@ fn each_status_has_its_number(rt: HostRuntime) {
         (Status::Outstanding(1), 7),
         (Status::WriteFault, 9),
         (Status::Memory, 10),
-        (Status::NotBuilt, 11),
     ];
     for (status, code) in rows {
         assert_eq!(rt; status.code(), code);

@@ -1,6 +1,7 @@
 -- Every automaton of a link has the cap that LCP grants: no row changes a cap, and all are set after a row of LCP.
-use Rattle.std.proofs.Common.{◌≡◌, ℕ, ◌+◌, ◌%◌, Bool, true, false, if◌then◌else◌, List, [], ◌∷◌, ◌++◌, refl, ◌∙◌}
-use Rattle.std.specs.Prelude.{◌==◌, ◌||◌, Option, Some, None, option_map}
+use Rattle.std.proofs.Common.{◌≡◌, ℕ, zero, suc, ◌+◌, ◌-◌, ◌%◌, Bool, true, false, if◌then◌else◌, List, [], ◌∷◌, ◌++◌, refl, sym, subst, ◌∙◌, inl, inr, Some, slice_get}
+use Rattle.std.specs.Prelude.{◌⊎◌, ◌==◌, ◌||◌, Option, None, option_map}
+use Rattle.std.specs.List.{AllByRecursion}
 use Rattle.ppp_packet.specs.Proto.{proto_number, proto_of}
 use Rattle.ppp_packet.specs.declared.proto.Proto.{Proto}
 use Rattle.ppp_packet.specs.declared.proto.Proto.TheVariants.{Lcp, Ip, Ipv6, Osi, Mpls, Bacp}
@@ -16,15 +17,17 @@ use Rattle.ppp_auto.specs.declared.auto.TheConstants.{MOST_CAP}
 use Rattle.ppp_frame.specs.Deframer.{feed_step}
 use Rattle.ppp_frame.specs.Header.{Read}
 use Rattle.ppp_link.specs.Automata.{Automata, auto_at, begun_if, cap_of, changed, with_cap}
-use Rattle.ppp_link.specs.Link.{Link, fed_with, link_begun, read_by}
-use Rattle.ppp_link.specs.LinkOut.{Entry, Push, LcpUp, LcpDown, Finished, NetUp, NetDown, Payload}
+use Rattle.ppp_link.specs.Link.{Link, fed_with, link_begun, link_with, read_by, run_did}
+use Rattle.ppp_link.specs.LinkOut.{Payload}
 use Rattle.ppp_link.specs.LinkTables.{LinkTables, bacp_table, ip_table, ipv6_table, mpls_table, osi_table, table_of}
 use Rattle.ppp_link.specs.Proto.{nets}
-use Rattle.ppp_link.specs.Steps.{Did, Given, Event, Packet as Octets, after, and_tells, auto_given, begins, capped, does, does_rejected, each_does, hears, hears_as, hears_other, hears_read, is_payload, rejected_if, rejected_in, rejects, run_by, takes, there, told_by}
-use Rattle.ppp_link.specs.Steps as step
-use Rattle.ppp_station.specs.Caps.{IsCapped, IsCappedAt}
-use Rattle.ppp_station.specs.Station.{link_ready, opens_all}
-use Rattle.ppp_station.specs.Steps.{Done, Happening, LineUp, LineDown, Opens, Closes, TimesOut, Takes, hands_up, is_opened_at, link_does, link_done, opener_of, runs, works, works_one}
+use Rattle.ppp_link.specs.Steps.{Did, Given, Event, Packet as Octets, after, and_tells, auto_given, begins, capped, does, does_rejected, each_does, hears, hears_as, hears_other, hears_read, is_payload, rejected_if, rejected_in, rejects, run_by, runs as group, takes, there, told_by}
+use Rattle.ppp_station.specs.Caps.{AreCapped, IsCapped, IsCappedAt}
+use Rattle.ppp_station.specs.Control.{comes, goes}
+use Rattle.ppp_station.specs.Station.{IsBegun, IsReady, Station, link_ready, on_link, opens_all, stepped_by}
+use Rattle.ppp_station.specs.Steps.{Happening, LineUp, LineDown, Opens, Closes, TimesOut, Takes, link_does, with_link}
+use Rattle.ppp_station.proofs.LinksLemmas.{with-either}
+use Rattle.ppp_station.proofs.WalkLemmas.{IsKept, all-any, works-kept}
 
 -- ---- one automaton
 
@@ -145,37 +148,43 @@ link-capped (Closes q) k word is = does-capped k.tables q (Event AdminClose) wor
 link-capped (TimesOut q) k word is = does-capped k.tables q (Event Timeout) word (begins k.automata) is
 link-capped (Takes octets) k word is = read-capped k.tables (feed_step (read_by k.automata.lcp k.deframer) octets).left.frame word (begins k.automata) is
 
--- ---- what its entries cause
+-- ---- all links
 
-run-capped : (on : Bool) (l word : ℕ) (done : Done) → IsCapped done.link.automata → IsCapped (runs on l word done).link.automata
-unfolding runs
-run-capped on l word done is = each-capped done.link.tables (step.runs false) (run_by on) word (begins done.link.automata) is
+abbrev AllCapped : List Link → Type 0
+AllCapped links = (i : ℕ) (k : Link) → slice_get links i ≡ Some k → IsCapped k.automata
 
-hands-capped : (protocol : ℕ) (octets : List ℕ) (done : Done) (b : Bool) → is_opened_at done.link (opener_of protocol) ≡ b → IsCapped done.link.automata → IsCapped (hands_up protocol octets done).link.automata
-hands-capped protocol octets done true opened is = rw opened is
-hands-capped protocol octets done false opened is = rw opened is
+either-capped : (links : List Link) (i : ℕ) (k j : Link) → AllCapped links → IsCapped k.automata → (k ≡ j) ⊎ (slice_get links i ≡ Some j) → IsCapped j.automata
+either-capped links i k j all is (inl same) = subst (λ (k : Link). IsCapped k.automata) same is
+either-capped links i k j all is (inr there) = all i j there
 
-one-capped : (l word : ℕ) (e : Entry) (done : Done) → IsCapped done.link.automata → IsCapped (works_one l word e done).link.automata
-unfolding works_one
-one-capped l word (Push octets) done is = is
-one-capped l word LcpUp done is = run-capped true l word done is
-one-capped l word LcpDown done is = run-capped false l word done is
-one-capped l word Finished done is = is
-one-capped l word (NetUp q) done is = is
-one-capped l word (NetDown q) done is = is
-one-capped l word (Payload number octets) done is = hands-capped number octets done (is_opened_at done.link (opener_of number)) refl is
+with-capped : (links : List Link) (l : ℕ) (k : Link) → AllCapped links → IsCapped k.automata → AllCapped (with_link l k links)
+with-capped links l k all is i j at = either-capped links i k j all is (with-either links l i k j at)
 
-works-capped : (l word : ℕ) (es : List Entry) (done : Done) → IsCapped done.link.automata → IsCapped (works l word es done).link.automata
-unfolding works
-works-capped l word [] done is = is
-works-capped l word (e ∷ es) done is = works-capped l word es (works_one l word e done) (one-capped l word e done is)
+caps-kept : (l word : ℕ) → IsKept l word (λ e. Unit {0}) (λ r. Unit {0}) (λ done. AllCapped done.links)
+caps-kept l word = record {
+  pushed = λ done octets is all. all;
+  handed = λ done number octets all. all;
+  hung = λ done all. all;
+  moved = λ done b all. all;
+  ran = λ done r k is at all.
+      with-capped done.links r.link (link_with k (run_did k r.on r.bacp word)) all (each-capped k.tables (group r.bacp) (run_by r.on) word (begins k.automata) (all (r.link - 1) k at));
+  came = λ key b. all-any (λ r. Unit {0}) (λ r. tt) (comes l key b).runs;
+  went = λ b. all-any (λ r. Unit {0}) (λ r. tt) (goes l b).runs;
+}
 
-pub done-capped : (what : Happening) (l word : ℕ) (k : Link) → IsCapped k.automata → IsCapped (link_done what l k word).link.automata
-done-capped what l word k is =
+capped-by : (what : Happening) (l word : ℕ) (st : Station) (o : Option Link) → slice_get st.links (l - 1) ≡ o → AllCapped st.links → AllCapped (stepped_by what l st word o).station.links
+capped-by what l word st None at all = all
+capped-by what l word st (Some k) at all =
     let fed = link_does what k word in
-    works-capped l word fed.out (record { link = fed.link; out = [] }) (link-capped what k word is)
+    works-kept l word (λ e. Unit {0}) (λ r. Unit {0}) (λ done. AllCapped done.links) (caps-kept l word)
+    fed.out (record { links = with_link l fed.link st.links; bundles = st.bundles; out = [] }) (all-any (λ e. Unit {0}) (λ e. tt) fed.out)
+    (with-capped st.links l fed.link all (link-capped what k word (all (l - 1) k at)))
 
--- ---- as a station begins with a link
+pub kept-caps : (what : Happening) (l word : ℕ) (st : Station) → AreCapped st → AreCapped (on_link what l st word).station
+unfolding AreCapped
+kept-caps what l word st all = capped-by what l word st (slice_get st.links (l - 1)) refl all
+
+-- ---- as a station begins
 
 begun-cap : {T : Type 0} (table : T → Table) (o : Option T) → IsCappedAt MOST_CAP (begun_if table o)
 begun-cap table None = tt
@@ -192,5 +201,16 @@ unfolding opens_all
 opens-capped [] k is = is
 opens-capped (p ∷ ps) k is = opens-capped ps _ (does-capped k.tables p (Event AdminOpen) 0 (begins k.automata) is)
 
-pub ready-capped : (t : LinkTables) → IsCapped (link_ready t).automata
+ready-capped : (t : LinkTables) → IsCapped (link_ready t).automata
 ready-capped t = opens-capped (nets ++ Bacp ∷ []) (link_begun t) (begun-capped t)
+
+ready-at : (links : List Link) (i : ℕ) (k : Link) → AllByRecursion IsReady links → slice_get links i ≡ Some k → IsReady k
+ready-at [] i k all is = absurd (cc)
+ready-at (x ∷ xs) zero k all is = let same : x ≡ k = cc in subst IsReady same all.0
+ready-at (x ∷ xs) (suc i) k all is = ready-at xs i k all.1 is
+
+pub begun-caps : (st : Station) → IsBegun st → AreCapped st
+unfolding AreCapped
+begun-caps st begun i k is =
+    let ready = ready-at st.links i k begun.ready is in
+    subst (λ (k : Link). IsCapped k.automata) (sym ready) (ready-capped k.tables)

@@ -1,11 +1,23 @@
+pub mod BundleLemmas
 pub mod CapLemmas
+pub mod ControlLemmas
 pub mod FrameLemmas
-mod ListLemmas
+pub mod FramedLemmas
+pub mod LinksLemmas
+pub mod ListLemmas
+pub mod MovesLemmas
 pub mod OneStationLemmas
 pub mod OrdersLemmas
 pub mod PhaseLemmas
+pub mod RanLemmas
+pub mod RunLemmas
 pub mod SignalLemmas
-pub mod StationLemmas
+mod StationLemmas
 mod StationOutLemmas
+pub mod StationPhaseLemmas
+pub mod SteadyLemmas
 mod StepsLemmas
+pub mod TurnLemmas
+pub mod UpLemmas
+pub mod WalkLemmas
 pub mod WovenLemmas

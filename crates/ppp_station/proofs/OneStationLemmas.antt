@@ -21,10 +21,11 @@ use Rattle.ppp_osimpls.specs.declared.osi_table.OsiTable.{OsiTable}
 use Rattle.ppp_osimpls.specs.declared.mpls_table.MplsTable.{MplsTable}
 use Rattle.ppp_bacp.specs.BacpTable.{is_favored}
 use Rattle.ppp_bacp.specs.declared.bacp_table.BacpTable.{BacpTable}
+use Rattle.ppp_bundle.specs.Bundles.{bundles_begun}
 use Rattle.ppp_link.specs.Link.{Link}
 use Rattle.ppp_link.specs.LinkSettings.{LinkSettings}
 use Rattle.ppp_link.specs.LinkTables.{LinkTables, tables_seen, ip_seen, ipv6_seen, osi_seen, bacp_seen}
-use Rattle.ppp_station.specs.Station.{IsReady, link_ready, settings_in}
+use Rattle.ppp_station.specs.Station.{Station, IsBegun, IsReady, limits_of, link_ready, settings_in}
 
 -- ---- tables that are set to the same are the same
 
@@ -110,7 +111,7 @@ same_tables t u same =
 same_ready : (k l : Link) → IsReady k → IsReady l → tables_seen k.tables ≡ tables_seen l.tables → k ≡ l
 same_ready k l ready other same = ready ∙ ap link_ready (same_tables k.tables l.tables same) ∙ sym other
 
-pub same_links : (ks ls : List Link) → AllByRecursion IsReady ks → AllByRecursion IsReady ls → settings_in ks ≡ settings_in ls → ks ≡ ls
+same_links : (ks ls : List Link) → AllByRecursion IsReady ks → AllByRecursion IsReady ls → settings_in ks ≡ settings_in ls → ks ≡ ls
 same_links [] [] ready other same = refl
 same_links [] (l ∷ ls) ready other same = absurd (cc)
 same_links (k ∷ ks) [] ready other same = absurd (cc)
@@ -118,3 +119,9 @@ same_links (k ∷ ks) (l ∷ ls) ready other same =
     let first : tables_seen k.tables ≡ tables_seen l.tables = cc in
     let rest : settings_in ks ≡ settings_in ls = cc in
     ap (λ x. x ∷ ks) (same_ready k l ready.0 other.0 first) ∙ ap (λ xs. l ∷ xs) (same_links ks ls ready.1 other.1 rest)
+
+pub same_stations : (a b : Station) → IsBegun a → IsBegun b → settings_in a.links ≡ settings_in b.links → a ≡ b
+same_stations a b begun other same =
+    let links = same_links a.links b.links begun.ready other.ready same in
+    let bundles = begun.bundles ∙ ap (λ (ks : List Link). bundles_begun (limits_of (length ks))) links ∙ sym other.bundles in
+    (λ i. record { links = links i; bundles = bundles i })

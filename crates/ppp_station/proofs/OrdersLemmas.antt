@@ -22,9 +22,10 @@ use Rattle.ppp_link.specs.Link.{Fed, Link, event_did, fed_with, read_by}
 use Rattle.ppp_link.specs.LinkOut.{Entry, Push, Payload}
 use Rattle.ppp_link.specs.LinkTables.{LinkTables, table_of}
 use Rattle.ppp_link.specs.Proto.{nets}
-use Rattle.ppp_link.specs.Steps.{Did, Given, Event, Packet, after, and_tells, auto_given, begins, does, does_rejected, each_does, hears, hears_as, hears_other, hears_read, is_payload, reject_packet, rejected_if, rejected_in, rejects, settled_after, signal_told, takes, there, told_all, told_by, told_if}
+use Rattle.ppp_link.specs.Steps.{Did, Given, Event, Packet, after, and_tells, auto_given, begins, does, does_rejected, each_does, hears, hears_as, hears_other, hears_read, is_payload, reject_packet, rejected_if, rejected_in, rejects, runs, settled_after, signal_told, takes, there, told_all, told_by, told_if}
 use Rattle.ppp_link.specs.declared.link_out.TheConstants.{MOST_PUSH}
-use Rattle.ppp_station.specs.Orders.{Order, SetsCap, auto_by, caps_after, is_same, obeys, obeys_all, of_frame, of_frame_for, of_given, of_link, of_other, of_packet, of_read, of_rejected, of_rejected_there, of_run, order_of, own_order, packet_if, packets_in, read_in, rejects_as, sent_by}
+use Rattle.ppp_station.specs.Moves.{goes_with}
+use Rattle.ppp_station.specs.Orders.{Order, Commands, SetsCap, auto_by, caps_after, is_same, obeys, obeys_all, of_frame, of_frame_for, of_given, of_link, of_other, of_packet, of_read, of_rejected, of_rejected_there, order_of, own_order, packet_if, packets_in, read_in, rejects_as, sent_by}
 use Rattle.ppp_station.specs.Steps.{Happening, LineUp, LineDown, Opens, Closes, TimesOut, Takes, link_does}
 use Rattle.ppp_station.proofs.FrameLemmas.{control-read, enc-longer}
 
@@ -342,13 +343,32 @@ chain p t word event did =
     (behind p t word _ _ did one two (given-tracks p t word Ip (Event event) did) (given-tracks p t word Ipv6 (Event event) one))
     (behind p t word _ _ two three four (given-tracks p t word Osi (Event event) two) (given-tracks p t word Mpls (Event event) three))
 
-pub run-tracks : (p : Proto) (t : LinkTables) (word : ℕ) (event : AutoEvent) (did : Did) → Tracks p t word (of_run p event) did (each_does t nets event word did)
-run-tracks Lcp t word event did = chain Lcp t word event did
-run-tracks Ip t word event did = chain Ip t word event did
-run-tracks Ipv6 t word event did = chain Ipv6 t word event did
-run-tracks Osi t word event did = chain Osi t word event did
-run-tracks Mpls t word event did = chain Mpls t word event did
-run-tracks Bacp t word event did = chain Bacp t word event did
+with-bacp : (p : Proto) (t : LinkTables) (word : ℕ) (event : AutoEvent) (did : Did) →
+    Tracks p t word ((((own_order p Ip (Event event) ++ []) ++ (own_order p Ipv6 (Event event) ++ [])) ++ ((own_order p Osi (Event event) ++ []) ++ (own_order p Mpls (Event event) ++ []))) ++ (own_order p Bacp (Event event) ++ []))
+    did (each_does t (nets ++ Bacp ∷ []) event word did)
+unfolding each_does
+with-bacp p t word event did =
+    let four = each_does t nets event word did in
+    let five = does t Bacp (Event event) word four in
+    behind p t word _ _ did four five (chain p t word event did) (given-tracks p t word Bacp (Event event) four)
+
+-- the orders of a protocol when those above LCP go Up or Down, and BACP with them where that is said
+abbrev pub of_group : Proto → Bool → AutoEvent → List Order
+of_group p bacp event = if goes_with p bacp then Commands event ∷ [] else []
+
+pub run-tracks : (p : Proto) (t : LinkTables) (bacp : Bool) (word : ℕ) (event : AutoEvent) (did : Did) → Tracks p t word (of_group p bacp event) did (each_does t (runs bacp) event word did)
+run-tracks Lcp t true word event did = with-bacp Lcp t word event did
+run-tracks Ip t true word event did = with-bacp Ip t word event did
+run-tracks Ipv6 t true word event did = with-bacp Ipv6 t word event did
+run-tracks Osi t true word event did = with-bacp Osi t word event did
+run-tracks Mpls t true word event did = with-bacp Mpls t word event did
+run-tracks Bacp t true word event did = with-bacp Bacp t word event did
+run-tracks Lcp t false word event did = chain Lcp t word event did
+run-tracks Ip t false word event did = chain Ip t word event did
+run-tracks Ipv6 t false word event did = chain Ipv6 t word event did
+run-tracks Osi t false word event did = chain Osi t word event did
+run-tracks Mpls t false word event did = chain Mpls t word event did
+run-tracks Bacp t false word event did = chain Bacp t word event did
 
 -- ---- a frame
 

@@ -1,5 +1,5 @@
--- What LCP's signals cause: a step of a link has packets of a network control protocol, or signals of LCP, but not both.
-use Rattle.std.proofs.Common.{◌≡◌, ℕ, Bool, true, false, if◌then◌else◌, List, [], ◌∷◌, ◌++◌, refl, sym, ap, ◌∙◌, inl, inr}
+-- A step of a link has packets of a control protocol above LCP, or signals of LCP that something follows from, but not both.
+use Rattle.std.proofs.Common.{◌≡◌, ◌≢◌, ℕ, Bool, true, false, if◌then◌else◌, List, [], ◌∷◌, ◌++◌, refl, sym, ap, ◌∙◌, inl, inr}
 use Rattle.std.specs.Prelude.{◌⊎◌, ◌==◌, ◌||◌, Option, Some, None, map}
 use Rattle.std.specs.List.{flat_map}
 use Rattle.std.specs.Option.{option_to_list}
@@ -25,10 +25,10 @@ use Rattle.ppp_packet.specs.declared.proto.Proto.{Proto}
 use Rattle.ppp_packet.specs.declared.proto.Proto.TheVariants.{Lcp, Ip, Ipv6, Osi, Mpls, Bacp}
 use Rattle.ppp_link.specs.Automata.{Automata, auto_at, form_for}
 use Rattle.ppp_link.specs.Link.{Link, fed_with, read_by}
-use Rattle.ppp_link.specs.LinkOut.{Entry, Push, LcpUp, LcpDown, Finished, NetUp, NetDown, Payload}
+use Rattle.ppp_link.specs.LinkOut.{Entry, LcpUp, LcpDown, Payload}
 use Rattle.ppp_link.specs.LinkTables.{LinkTables, table_of}
 use Rattle.ppp_link.specs.Steps.{Given, Event, Packet as Octets, after as link_after, begins, does, does_rejected, hears, hears_as, hears_other, hears_read, is_payload, rejected_if, rejected_in, rejects, signal_told, takes, there, told_all, told_by, told_if, and_tells}
-use Rattle.ppp_station.specs.Orders.{Order, caused, is_net, is_same, packets_in}
+use Rattle.ppp_station.specs.Orders.{is_same, packets_in}
 use Rattle.ppp_station.specs.Steps.{Happening, LineUp, LineDown, Opens, Closes, TimesOut, Takes, link_does}
 use Rattle.ppp_station.proofs.OrdersLemmas.{AllShort, link_packets, only_if, packets-told, same-proto}
 
@@ -89,132 +89,126 @@ if-tells form q t (Some a) octets word n is = read-tells form q t a (packet_of o
 
 -- ---- packets or signals
 
-abbrev pub all_caused : Proto → List Entry → List Order
-all_caused p es = flat_map (caused p) es
+-- whether LCP came to be Opened or left Opened, entry by entry that says so
+abbrev pub signals_of : Entry → List Bool
+signals_of LcpUp = true ∷ []
+signals_of LcpDown = false ∷ []
+signals_of entry = []
+
+abbrev pub all_signals : List Entry → List Bool
+all_signals es = flat_map signals_of es
 
 -- the entries have no packet of the protocol, or no signal of LCP
 abbrev pub IsParted : Proto → List Entry → Type 0
-IsParted p es = (link_packets p es ≡ []) ⊎ (all_caused p es ≡ [])
-
--- LCP and BACP don't go Up and Down by signals
-pub uncaused : (p : Proto) (es : List Entry) → is_net p ≡ false → all_caused p es ≡ []
-uncaused p [] e = refl
-uncaused p (Push octets ∷ es) e = uncaused p es e
-uncaused p (LcpUp ∷ es) e = rw e (uncaused p es e)
-uncaused p (LcpDown ∷ es) e = rw e (uncaused p es e)
-uncaused p (Finished ∷ es) e = uncaused p es e
-uncaused p (NetUp q ∷ es) e = uncaused p es e
-uncaused p (NetDown q ∷ es) e = uncaused p es e
-uncaused p (Payload number octets ∷ es) e = uncaused p es e
+IsParted p es = (link_packets p es ≡ []) ⊎ (all_signals es ≡ [])
 
 -- other protocols don't tell LCP's signals
-signal-quiet : (p q : Proto) (told : LayerSignal) → is_same Lcp q ≡ false → all_caused p (signal_told q told) ≡ []
-signal-quiet p Lcp told e = absurd (cc)
-signal-quiet p Ip signal.Up e = refl
-signal-quiet p Ip signal.Down e = refl
-signal-quiet p Ip signal.Started e = refl
-signal-quiet p Ip signal.Finished e = refl
-signal-quiet p Ip (signal.ProtocolRejected n) e = refl
-signal-quiet p Ipv6 signal.Up e = refl
-signal-quiet p Ipv6 signal.Down e = refl
-signal-quiet p Ipv6 signal.Started e = refl
-signal-quiet p Ipv6 signal.Finished e = refl
-signal-quiet p Ipv6 (signal.ProtocolRejected n) e = refl
-signal-quiet p Osi signal.Up e = refl
-signal-quiet p Osi signal.Down e = refl
-signal-quiet p Osi signal.Started e = refl
-signal-quiet p Osi signal.Finished e = refl
-signal-quiet p Osi (signal.ProtocolRejected n) e = refl
-signal-quiet p Mpls signal.Up e = refl
-signal-quiet p Mpls signal.Down e = refl
-signal-quiet p Mpls signal.Started e = refl
-signal-quiet p Mpls signal.Finished e = refl
-signal-quiet p Mpls (signal.ProtocolRejected n) e = refl
-signal-quiet p Bacp signal.Up e = refl
-signal-quiet p Bacp signal.Down e = refl
-signal-quiet p Bacp signal.Started e = refl
-signal-quiet p Bacp signal.Finished e = refl
-signal-quiet p Bacp (signal.ProtocolRejected n) e = refl
+signal-quiet : (q : Proto) (told : LayerSignal) → is_same Lcp q ≡ false → all_signals (signal_told q told) ≡ []
+signal-quiet Lcp told e = absurd (cc)
+signal-quiet Ip signal.Up e = refl
+signal-quiet Ip signal.Down e = refl
+signal-quiet Ip signal.Started e = refl
+signal-quiet Ip signal.Finished e = refl
+signal-quiet Ip (signal.ProtocolRejected n) e = refl
+signal-quiet Ipv6 signal.Up e = refl
+signal-quiet Ipv6 signal.Down e = refl
+signal-quiet Ipv6 signal.Started e = refl
+signal-quiet Ipv6 signal.Finished e = refl
+signal-quiet Ipv6 (signal.ProtocolRejected n) e = refl
+signal-quiet Osi signal.Up e = refl
+signal-quiet Osi signal.Down e = refl
+signal-quiet Osi signal.Started e = refl
+signal-quiet Osi signal.Finished e = refl
+signal-quiet Osi (signal.ProtocolRejected n) e = refl
+signal-quiet Mpls signal.Up e = refl
+signal-quiet Mpls signal.Down e = refl
+signal-quiet Mpls signal.Started e = refl
+signal-quiet Mpls signal.Finished e = refl
+signal-quiet Mpls (signal.ProtocolRejected n) e = refl
+signal-quiet Bacp signal.Up e = refl
+signal-quiet Bacp signal.Down e = refl
+signal-quiet Bacp signal.Started e = refl
+signal-quiet Bacp signal.Finished e = refl
+signal-quiet Bacp (signal.ProtocolRejected n) e = refl
 
-pub told-quiet : (form : Form) (p q : Proto) (es : List Told) → is_same Lcp q ≡ false → all_caused p (told_all form q es) ≡ []
-told-quiet form p q [] e = refl
-told-quiet form p q (Send octets ∷ es) e = told-quiet form p q es e
-told-quiet form p q (Signal told ∷ es) e =
-    flat_map-append (caused p) (signal_told q told) (told_all form q es)
-    ∙ ap (λ xs. xs ++ all_caused p (told_all form q es)) (signal-quiet p q told e)
-    ∙ told-quiet form p q es e
+pub told-quiet : (form : Form) (q : Proto) (es : List Told) → is_same Lcp q ≡ false → all_signals (told_all form q es) ≡ []
+told-quiet form q [] e = refl
+told-quiet form q (Send octets ∷ es) e = told-quiet form q es e
+told-quiet form q (Signal told ∷ es) e =
+    flat_map-append signals_of (signal_told q told) (told_all form q es)
+    ∙ ap (λ xs. xs ++ all_signals (told_all form q es)) (signal-quiet q told e)
+    ∙ told-quiet form q es e
 
-net-other : (p : Proto) → is_net p ≡ true → is_same p Lcp ≡ false
-net-other Lcp e = absurd (cc)
-net-other Ip e = refl
-net-other Ipv6 e = refl
-net-other Osi e = refl
-net-other Mpls e = refl
-net-other Bacp e = refl
+not-lcp : (p : Proto) → p ≢ Lcp → is_same p Lcp ≡ false
+not-lcp Lcp other = absurd (other refl)
+not-lcp Ip other = refl
+not-lcp Ipv6 other = refl
+not-lcp Osi other = refl
+not-lcp Mpls other = refl
+not-lcp Bacp other = refl
 
-lcp-packets : (form : Form) (p : Proto) (es : List Told) → is_net p ≡ true → AllShort (told_all form Lcp es) → link_packets p (told_all form Lcp es) ≡ []
-lcp-packets form p es net short = packets-told form p Lcp es short ∙ ap (λ b. only_if b (packets_in es)) (net-other p net)
+lcp-packets : (form : Form) (p : Proto) (es : List Told) → p ≢ Lcp → AllShort (told_all form Lcp es) → link_packets p (told_all form Lcp es) ≡ []
+lcp-packets form p es other short = packets-told form p Lcp es short ∙ ap (λ b. only_if b (packets_in es)) (not-lcp p other)
 
-told-parted : (form : Form) (p q : Proto) (es : List Told) (net : Bool) (lcp : Bool) → is_net p ≡ net → is_same Lcp q ≡ lcp → AllShort (told_all form q es) → IsParted p (told_all form q es)
-told-parted form p q es false lcp n l short = inr (uncaused p (told_all form q es) n)
-told-parted form p q es true false n l short = inr (told-quiet form p q es l)
-told-parted form p q es true true n l short =
+told-parted : (form : Form) (p q : Proto) (es : List Told) (lcp : Bool) → p ≢ Lcp → is_same Lcp q ≡ lcp → AllShort (told_all form q es) → IsParted p (told_all form q es)
+told-parted form p q es false other l short = inr (told-quiet form q es l)
+told-parted form p q es true other l short =
     let same = same-proto Lcp q l in
-    inl (rw (sym same) (lcp-packets form p es n (rw same short)))
+    inl (rw (sym same) (lcp-packets form p es other (rw same short)))
 
-given-parted : (p : Proto) (t : LinkTables) (q : Proto) (given : Given) (word : ℕ) (k : Automata) → AllShort (does t q given word (begins k)).out → IsParted p (does t q given word (begins k)).out
+given-parted : (p : Proto) (t : LinkTables) (q : Proto) (given : Given) (word : ℕ) (k : Automata) → p ≢ Lcp → AllShort (does t q given word (begins k)).out → IsParted p (does t q given word (begins k)).out
 unfolding does
-given-parted p t q given word k short = told-parted (form_for (link_after t q given word k).lcp q) p q (told_by t q given word k) (is_net p) (is_same Lcp q) refl refl short
+given-parted p t q given word k other short = told-parted (form_for (link_after t q given word k).lcp q) p q (told_by t q given word k) (is_same Lcp q) other refl short
 
 -- ---- a frame
 
 -- behind nothing, as behind something
-rejected-parted : (p : Proto) (t : LinkTables) (o : Option Proto) (word : ℕ) (k : Automata) → AllShort (does_rejected t o word (begins k)).out → IsParted p (does_rejected t o word (begins k)).out
-rejected-parted p t (Some q) word k short = given-parted p t q (Event RejectedBadly) word k short
-rejected-parted p t None word k short = given-parted p t Lcp (Event RejectedWell) word k short
+rejected-parted : (p : Proto) (t : LinkTables) (o : Option Proto) (word : ℕ) (k : Automata) → p ≢ Lcp → AllShort (does_rejected t o word (begins k)).out → IsParted p (does_rejected t o word (begins k)).out
+rejected-parted p t (Some q) word k other short = given-parted p t q (Event RejectedBadly) word k other short
+rejected-parted p t None word k other short = given-parted p t Lcp (Event RejectedWell) word k other short
 
 takes-as : (p : Proto) (t : LinkTables) (q : Proto) (octets : List ℕ) (word : ℕ) (k : Automata) (o : Option ℕ) →
     rejected_in (told_by t q (Octets octets) word k) ≡ o →
-    AllShort (rejected_if t o word (does t q (Octets octets) word (begins k))).out → IsParted p (rejected_if t o word (does t q (Octets octets) word (begins k))).out
+    p ≢ Lcp → AllShort (rejected_if t o word (does t q (Octets octets) word (begins k))).out → IsParted p (rejected_if t o word (does t q (Octets octets) word (begins k))).out
 unfolding rejected_if does
-takes-as p t q octets word k None is short = given-parted p t q (Octets octets) word k short
-takes-as p t q octets word k (Some n) is short =
+takes-as p t q octets word k None is other short = given-parted p t q (Octets octets) word k other short
+takes-as p t q octets word k (Some n) is other short =
     let new = link_after t q (Octets octets) word k in
     let none : told_all (form_for new.lcp q) q (told_by t q (Octets octets) word k) ≡ [] = if-tells (form_for new.lcp q) q (table_of t q) (auto_at k q) octets word n is in
-    rw none (rejected-parted p t (there new (proto_of n)) word new (rw none at short))
+    rw none (rejected-parted p t (there new (proto_of n)) word new other (rw none at short))
 
-takes-parted : (p : Proto) (t : LinkTables) (q : Proto) (octets : List ℕ) (word : ℕ) (k : Automata) → AllShort (takes t q octets word (begins k)).out → IsParted p (takes t q octets word (begins k)).out
+takes-parted : (p : Proto) (t : LinkTables) (q : Proto) (octets : List ℕ) (word : ℕ) (k : Automata) → p ≢ Lcp → AllShort (takes t q octets word (begins k)).out → IsParted p (takes t q octets word (begins k)).out
 unfolding takes
-takes-parted p t q octets word k short = takes-as p t q octets word k (rejected_in (told_by t q (Octets octets) word k)) refl short
+takes-parted p t q octets word k other short = takes-as p t q octets word k (rejected_in (told_by t q (Octets octets) word k)) refl other short
 
 other-parted : (p : Proto) (t : LinkTables) (number : ℕ) (info : List ℕ) (k : Automata) (b : Bool) →
-    all_caused p (if b then and_tells (begins k) (Payload number info) else rejects number info (begins k)).out ≡ []
+    all_signals (if b then and_tells (begins k) (Payload number info) else rejects number info (begins k)).out ≡ []
 unfolding rejects
 other-parted p t number info k true = refl
 other-parted p t number info k false = refl
 
-for-parted : (p : Proto) (t : LinkTables) (o : Option Proto) (number : ℕ) (info : List ℕ) (word : ℕ) (k : Automata) → AllShort (hears_as t o number info word (begins k)).out → IsParted p (hears_as t o number info word (begins k)).out
+for-parted : (p : Proto) (t : LinkTables) (o : Option Proto) (number : ℕ) (info : List ℕ) (word : ℕ) (k : Automata) → p ≢ Lcp → AllShort (hears_as t o number info word (begins k)).out → IsParted p (hears_as t o number info word (begins k)).out
 unfolding hears_other
-for-parted p t (Some q) number info word k short = takes-parted p t q info word k short
-for-parted p t None number info word k short = inr (other-parted p t number info k (is_payload t k number))
+for-parted p t (Some q) number info word k other short = takes-parted p t q info word k other short
+for-parted p t None number info word k other short = inr (other-parted p t number info k (is_payload t k number))
 
 if-parted : (p : Proto) (t : LinkTables) (o : Option Proto) (number : ℕ) (info : List ℕ) (word : ℕ) (k : Automata) (b : Bool) →
-    AllShort (if b then hears_as t o number info word (begins k) else begins k).out → IsParted p (if b then hears_as t o number info word (begins k) else begins k).out
-if-parted p t o number info word k true short = for-parted p t o number info word k short
-if-parted p t o number info word k false short = inl refl
+    p ≢ Lcp → AllShort (if b then hears_as t o number info word (begins k) else begins k).out → IsParted p (if b then hears_as t o number info word (begins k) else begins k).out
+if-parted p t o number info word k true other short = for-parted p t o number info word k other short
+if-parted p t o number info word k false other short = inl refl
 
-read-parted : (p : Proto) (t : LinkTables) (o : Option Read) (word : ℕ) (k : Automata) → AllShort (hears_read t o word (begins k)).out → IsParted p (hears_read t o word (begins k)).out
+read-parted : (p : Proto) (t : LinkTables) (o : Option Read) (word : ℕ) (k : Automata) → p ≢ Lcp → AllShort (hears_read t o word (begins k)).out → IsParted p (hears_read t o word (begins k)).out
 unfolding hears
-read-parted p t None word k short = inl refl
-read-parted p t (Some read) word k short =
-    if-parted p t (there k (proto_of read.protocol)) read.protocol read.info word k ((read.protocol == proto_number Lcp) || is_opened k.lcp.state) short
+read-parted p t None word k other short = inl refl
+read-parted p t (Some read) word k other short =
+    if-parted p t (there k (proto_of read.protocol)) read.protocol read.info word k ((read.protocol == proto_number Lcp) || is_opened k.lcp.state) other short
 
-pub link-parted : (p : Proto) (what : Happening) (k : Link) (word : ℕ) → AllShort (link_does what k word).out → IsParted p (link_does what k word).out
+pub link-parted : (p : Proto) (what : Happening) (k : Link) (word : ℕ) → p ≢ Lcp → AllShort (link_does what k word).out → IsParted p (link_does what k word).out
 unfolding fed_with
-link-parted p LineUp k word short = given-parted p k.tables Lcp (Event Up) word k.automata short
-link-parted p LineDown k word short = given-parted p k.tables Lcp (Event Down) word k.automata short
-link-parted p (Opens q) k word short = given-parted p k.tables q (Event AdminOpen) word k.automata short
-link-parted p (Closes q) k word short = given-parted p k.tables q (Event AdminClose) word k.automata short
-link-parted p (TimesOut q) k word short = given-parted p k.tables q (Event Timeout) word k.automata short
-link-parted p (Takes octets) k word short =
-    read-parted p k.tables (feed_step (read_by k.automata.lcp k.deframer) octets).left.frame word k.automata short
+link-parted p LineUp k word other short = given-parted p k.tables Lcp (Event Up) word k.automata other short
+link-parted p LineDown k word other short = given-parted p k.tables Lcp (Event Down) word k.automata other short
+link-parted p (Opens q) k word other short = given-parted p k.tables q (Event AdminOpen) word k.automata other short
+link-parted p (Closes q) k word other short = given-parted p k.tables q (Event AdminClose) word k.automata other short
+link-parted p (TimesOut q) k word other short = given-parted p k.tables q (Event Timeout) word k.automata other short
+link-parted p (Takes octets) k word other short =
+    read-parted p k.tables (feed_step (read_by k.automata.lcp k.deframer) octets).left.frame word k.automata other short

@@ -1,6 +1,5 @@
 -- The links of a station, one after another.
-use Rattle.std.proofs.Common.{◌≡◌, ◌≢◌, ℕ, zero, suc, ◌+◌, ◌-◌, ◌<◌, ◌≤◌, List, [], ◌∷◌, ◌++◌, take, drop, length, map, set, get_or, Some, slice_get, refl, sym, ap, ◌∙◌, arith}
-use Rattle.std.specs.Prelude.{Option, None}
+use Rattle.std.proofs.Common.{◌≡◌, ℕ, zero, suc, ◌+◌, ◌-◌, ◌<◌, ◌≤◌, List, [], ◌∷◌, ◌++◌, take, drop, length, map, set, get_or, Some, slice_get, refl, sym, ap, ◌∙◌, arith}
 use Rattle.std.specs.List.{AllByRecursion}
 use Rattle.std.proofs.lemmas.List.{map-append}
 use Rattle.std.proofs.lemmas.Option.{slice_get-get_or}
@@ -13,9 +12,10 @@ use Rattle.ppp_packet.specs.declared.proto.Proto.TheVariants.{Bacp}
 use Rattle.ppp_packet.specs.declared.proto.Proto.{Proto}
 use Rattle.ppp_auto.specs.declared.auto_event.AutoEvent.TheVariants.{AdminOpen}
 use Rattle.ppp_link.specs.Link.{Fed, Link, event_did, link_begun, link_with}
-use Rattle.ppp_station.specs.Station.{Stepped, all_settings, held_in, link_ready, on_link, opens_all, settings_in, stepped_by, with_link, IsReady}
+use Rattle.ppp_bundle.specs.Bundles.{Bundles}
+use Rattle.ppp_station.specs.Station.{Station, Stepped, all_settings, held_in, link_ready, on_link, opens_all, settings_in, stepped_by, IsReady}
 use Rattle.ppp_station.specs.StationOut.{Entry, Out}
-use Rattle.ppp_station.specs.Steps.{Happening, fed_seen, link_does, link_done, so_far, works}
+use Rattle.ppp_station.specs.Steps.{Happening, fed_seen, link_does, so_far, with_link, works}
 use Rattle.ppp_station.proofs.ListLemmas.{drop-get}
 
 -- one protocol is to be opened, and the rest is left
@@ -80,41 +80,6 @@ mapped-get f [] (suc i) = refl
 mapped-get f (x ∷ xs) zero = refl
 mapped-get f (x ∷ xs) (suc i) = mapped-get f xs i
 
--- ---- what happens to one link
-
-with-own : (links : List Link) (l : ℕ) (k old : Link) → slice_get links l ≡ Some old → slice_get (with_link (suc l) k links) l ≡ Some k
-with-own [] l k old is = absurd (cc)
-with-own (x ∷ xs) zero k old is = refl
-with-own (x ∷ xs) (suc l) k old is = with-own xs l k old is
-
-with-others : (links : List Link) (l m : ℕ) (k : Link) → suc m ≢ l → slice_get (with_link l k links) m ≡ slice_get links m
-with-others [] l m k other = refl
-with-others (x ∷ xs) zero m k other = refl
-with-others (x ∷ xs) (suc zero) zero k other = absurd (other refl)
-with-others (x ∷ xs) (suc zero) (suc m) k other = refl
-with-others (x ∷ xs) (suc (suc l)) zero k other = refl
-with-others (x ∷ xs) (suc (suc l)) (suc m) k other = with-others xs (suc l) m k (λ same. other (ap suc same))
-
-pub own-link : (what : Happening) (l word : ℕ) (links : List Link) (k : Link) → 1 ≤ l → slice_get links (l - 1) ≡ Some k →
-    slice_get (on_link what l links word).links (l - 1) ≡ Some (link_done what l k word).link
-own-link what zero word links k low is = absurd (omega arith)
-own-link what (suc l) word links k low is =
-    let e : suc l - 1 ≡ l = omega arith in
-    let at : slice_get links l ≡ Some k = rw e at is in
-    rw (e, at) (with-own links l (link_done what (suc l) k word).link k at)
-
-others-by : (what : Happening) (l m word : ℕ) (links : List Link) (o : Option Link) → suc m ≢ l →
-    slice_get (stepped_by what l links word o).links m ≡ slice_get links m
-others-by what l m word links None other = refl
-others-by what l m word links (Some k) other = with-others links l m (link_done what l k word).link other
-
-pub other-links : (what : Happening) (l m word : ℕ) (links : List Link) → 1 ≤ m → m ≢ l →
-    slice_get (on_link what l links word).links (m - 1) ≡ slice_get links (m - 1)
-other-links what l zero word links low other = absurd (omega arith)
-other-links what l (suc m) word links low other =
-    let e : suc m - 1 ≡ m = omega arith in
-    rw e (others-by what l m word links (slice_get links (l - 1)) other)
-
 -- ---- what the code does, link by link
 
 pub settings-put : (ks : List Link) (k : Link) (i : ℕ) (s : EndSettings) → settings_in ks ≡ all_settings i 1 s → tables_seen k.tables ≡ settings_of (i + 1) s →
@@ -133,19 +98,23 @@ reset-next f ks now i d k less is new =
     ap (λ xs. set xs i k) is ∙ ap (set (map f (take i ks) ++ drop i ks) i) new ∙ mapped-next f ks i (get_or now i d) there
 
 -- a link's own step, what follows from it, and the station after that
-pub record IsStepped (what : Happening) (l word : ℕ) (old new : List Link) (told : Out) : Type 0 where
-  pub links : new ≡ (on_link what l old word).links
+pub record IsStepped (what : Happening) (l word : ℕ) (old new : Station) (told : Out) : Type 0 where
+  pub station : new ≡ (on_link what l old word).station
   pub out : told ≡ (on_link what l old word).out
 
-pub happen-is : (what : Happening) (l at word : ℕ) (links : List Link) (d old begun done : Link) (told : List Told) (used : ℕ) (begins entries : List Entry) →
-    at ≡ l - 1 → 1 ≤ l → l ≤ length links → old ≡ get_or links at d → fed_seen begun told used ≡ link_does what old word →
-    begins ≡ [] → so_far done entries ≡ works l word told (so_far begun begins) → IsStepped what l word links (set links at done) (record { entries = entries; used = used })
-happen-is what l at word links d old begun done told used begins entries at_is low high old_is fed none worked =
-    let there : slice_get links (l - 1) ≡ Some old = ap (slice_get links) (sym at_is) ∙ slice_get-get_or links at d (omega (arith, at_is)) ∙ ap (λ (k : Link). Some k) (sym old_is) in
-    let is : so_far done entries ≡ link_done what l old word =
-    worked ∙ ap (λ es. works l word told (so_far begun es)) none ∙ ap (λ (f : Fed). works l word f.out (record { link = f.link; out = [] })) fed in
-    let step = ap (stepped_by what l links word) (sym there) in
+pub happen-is : (what : Happening) (l at word : ℕ) (st : Station) (d old begun : Link) (links : List Link) (b : Bundles) (told : List Told) (used : ℕ) (begins entries : List Entry) →
+    at ≡ l - 1 → 1 ≤ l → l ≤ length st.links → old ≡ get_or st.links at d → fed_seen begun told used ≡ link_does what old word →
+    begins ≡ [] → so_far links b entries ≡ works l word told (so_far (set st.links at begun) st.bundles begins) →
+    IsStepped what l word st (record { links = links; bundles = b }) (record { entries = entries; used = used })
+happen-is what l at word st d old begun links b told used begins entries at_is low high old_is fed none worked =
+    let there : slice_get st.links (l - 1) ≡ Some old = ap (slice_get st.links) (sym at_is) ∙ slice_get-get_or st.links at d (omega (arith, at_is)) ∙ ap (λ (k : Link). Some k) (sym old_is) in
+    let set_at : set st.links at begun ≡ with_link l begun st.links = ap (λ n. set st.links n begun) at_is ∙ sym (set-is st.links l begun low high) in
+    let is : so_far links b entries ≡ works l word (link_does what old word).out (so_far (with_link l (link_does what old word).link st.links) st.bundles []) =
+    worked ∙ ap (λ es. works l word told (so_far (set st.links at begun) st.bundles es)) none
+    ∙ ap (λ ks. works l word told (so_far ks st.bundles [])) set_at
+    ∙ ap (λ (f : Fed). works l word f.out (so_far (with_link l f.link st.links) st.bundles [])) fed in
+    let step = ap (stepped_by what l st word) (sym there) in
     record {
-      links = (λ i. set links (at_is i) (is i).link) ∙ sym (set-is links l (link_done what l old word).link low high) ∙ ap (λ (s : Stepped). s.links) step;
+      station = (λ i. record { links = (is i).links; bundles = (is i).bundles }) ∙ ap (λ (s : Stepped). s.station) step;
       out = (λ i. record { entries = (is i).out; used = (fed i).used }) ∙ ap (λ (s : Stepped). s.out) step;
     }

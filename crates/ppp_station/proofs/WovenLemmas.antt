@@ -1,10 +1,10 @@
--- The entries of a link's step, worked off in order, as one of its automata sees them.
-use Rattle.std.proofs.Common.{◌≡◌, ℕ, Bool, true, false, if◌then◌else◌, List, [], ◌∷◌, ◌++◌, refl, sym, ap, subst, ◌∙◌, append_assoc, append-nil, inl, inr}
-use Rattle.std.specs.Prelude.{Option, None}
+-- The entries of a link's step, worked off in order, as the automata of any one link see them.
+use Rattle.std.proofs.Common.{◌≡◌, ◌≢◌, ℕ, ◌-◌, ◌≤◌, Bool, true, false, if◌then◌else◌, List, [], ◌∷◌, ◌++◌, refl, sym, ap, subst, ◌∙◌, append_assoc, append-nil, inl, inr, Some, slice_get}
+use Rattle.std.specs.Prelude.{◌⊎◌, ◌&&◌, ◌||◌, ◌==◌, Option, None}
 use Rattle.std.proofs.lemmas.Grind.{flat_map-append}
-use Rattle.std.proofs.lemmas.Bool.{eq-eqb}
+use Rattle.std.proofs.lemmas.Bool.{eq-eqb, ne_eqb}
 use Rattle.ppp_auto.specs.Auto.{Auto}
-use Rattle.ppp_auto.specs.declared.auto_event.AutoEvent.TheVariants.{Up, Down}
+use Rattle.ppp_bundle.specs.Bundles.{Bundles}
 use Rattle.ppp_packet.specs.declared.proto.Proto.{Proto}
 use Rattle.ppp_packet.specs.declared.proto.Proto.TheVariants.{Lcp}
 use Rattle.ppp_link.specs.Automata.{auto_at}
@@ -12,12 +12,14 @@ use Rattle.ppp_link.specs.Link.{Link, link_with, run_did}
 use Rattle.ppp_link.specs.LinkOut.{Entry as LinkTold}
 use Rattle.ppp_link.specs.LinkOut as told
 use Rattle.ppp_link.specs.LinkTables.{LinkTables}
-use Rattle.ppp_link.specs.Steps.{Did, begins}
-use Rattle.ppp_station.specs.Orders.{Order, auto_by, caused, of_link, of_run, orders, packet_of, packets_of, sent_by}
+use Rattle.ppp_link.specs.Steps.{begins, run_by}
+use Rattle.ppp_station.specs.Control.{Moved, Run, comes, goes, key_in}
+use Rattle.ppp_station.specs.Moves.{caused, caused_by, of_run, of_runs}
+use Rattle.ppp_station.specs.Orders.{Commands, Order, auto_by, packet_of, packets_of, sent_by}
 use Rattle.ppp_station.specs.StationOut.{AreShort, Entry, Push, Got, Hang}
-use Rattle.ppp_station.specs.Steps.{Done, Happening, all_plain, and_tells, is_opened_at, link_does, link_done, opener_of, runs, works, works_one}
-use Rattle.ppp_station.proofs.OrdersLemmas.{AllShort, IsShortPush, Tracks, link_packet, link_packets, auto_by-append, link-tracks, no-orders, run-tracks, sent_by-append}
-use Rattle.ppp_station.proofs.SignalLemmas.{IsParted, all_caused, link-parted}
+use Rattle.ppp_station.specs.Steps.{Done, all_plain, and_tells, comes_up, control_for, follows, is_opened_control, is_opened_on, opener_of, plain, runs, runs_all, runs_at, works, works_one}
+use Rattle.ppp_station.proofs.LinksLemmas.{same-or, with-others, with-own}
+use Rattle.ppp_station.proofs.OrdersLemmas.{AllShort, IsShortPush, auto_by-append, link_packet, link_packets, no-orders, of_group, run-tracks, sent_by-append}
 
 -- ---- lists
 
@@ -37,12 +39,12 @@ nil-behind : {X : Type 0} (xs ys : List X) → xs ++ ys ≡ [] → ys ≡ []
 nil-behind [] ys e = e
 nil-behind (x ∷ xs) ys e = absurd (cc)
 
--- ---- frames that go out on the link
+-- ---- frames that go out on a link
 
 own-packet : (p : Proto) (l : ℕ) (octets : List ℕ) → packet_of p l (Push l octets) ≡ link_packet p (told.Push octets)
 own-packet p l octets = rw (eq-eqb l l refl) refl
 
-plain-packets : (p : Proto) (l : ℕ) (es : List LinkTold) → packets_of p l (all_plain l es) ≡ link_packets p es
+pub plain-packets : (p : Proto) (l : ℕ) (es : List LinkTold) → packets_of p l (all_plain l es) ≡ link_packets p es
 plain-packets p l [] = refl
 plain-packets p l (told.Push octets ∷ es) = ap (λ xs. xs ++ packets_of p l (all_plain l es)) (own-packet p l octets) ∙ ap (λ xs. link_packet p (told.Push octets) ++ xs) (plain-packets p l es)
 plain-packets p l (told.LcpUp ∷ es) = plain-packets p l es
@@ -51,6 +53,17 @@ plain-packets p l (told.Finished ∷ es) = plain-packets p l es
 plain-packets p l (told.NetUp q ∷ es) = plain-packets p l es
 plain-packets p l (told.NetDown q ∷ es) = plain-packets p l es
 plain-packets p l (told.Payload number octets ∷ es) = plain-packets p l es
+
+-- none goes out on another
+pub plain-elsewhere : (p : Proto) (l m : ℕ) (es : List LinkTold) → l ≢ m → packets_of p m (all_plain l es) ≡ []
+plain-elsewhere p l m [] other = refl
+plain-elsewhere p l m (told.Push octets ∷ es) other = rw (ne_eqb l m other) (plain-elsewhere p l m es other)
+plain-elsewhere p l m (told.LcpUp ∷ es) other = plain-elsewhere p l m es other
+plain-elsewhere p l m (told.LcpDown ∷ es) other = plain-elsewhere p l m es other
+plain-elsewhere p l m (told.Finished ∷ es) other = plain-elsewhere p l m es other
+plain-elsewhere p l m (told.NetUp q ∷ es) other = plain-elsewhere p l m es other
+plain-elsewhere p l m (told.NetDown q ∷ es) other = plain-elsewhere p l m es other
+plain-elsewhere p l m (told.Payload number octets ∷ es) other = plain-elsewhere p l m es other
 
 plain-short : (l : ℕ) (es : List LinkTold) → AreShort (all_plain l es) → AllShort es
 plain-short l [] short = tt
@@ -62,123 +75,279 @@ plain-short l (told.NetUp q ∷ es) short = (tt, plain-short l es short)
 plain-short l (told.NetDown q ∷ es) short = (tt, plain-short l es short)
 plain-short l (told.Payload number octets ∷ es) short = (tt, plain-short l es short)
 
--- ---- one entry
+-- ---- between two moments
 
--- between two moments these orders were given to the automaton of p, and these are its packets among the frames
-record Follows (p : Proto) (l : ℕ) (t : LinkTables) (word : ℕ) (os : List Order) (more : List (List ℕ)) (before after : Done) : Type 0 where
-  tables : after.link.tables ≡ before.link.tables
-  auto : auto_at after.link.automata p ≡ auto_by t p word os (auto_at before.link.automata p)
-  short : AreShort after.out → AreShort before.out
-  sent : AreShort after.out → packets_of p l after.out ≡ packets_of p l before.out ++ more
+-- what the automaton of a protocol of a link sends by orders
+abbrev pub sends : ℕ → (Proto → List Order) → Link → Proto → List (List ℕ)
+sends word os j p = sent_by j.tables p word (os p) (auto_at j.automata p)
 
--- an entry that causes nothing
-tells : (p : Proto) (l : ℕ) (t : LinkTables) (word : ℕ) (done : Done) (entry : Entry) (more : List (List ℕ)) → packet_of p l entry ≡ more →
-    Follows p l t word [] (more ++ sent_by t p word [] (auto_at done.link.automata p)) done (and_tells done entry)
-tells p l t word done entry more is =
-    let o = auto_at done.link.automata p in
-    record {
-      tables = refl;
-      auto = sym (no-orders t p word o).0;
-      short = λ short. short-front done.out (entry ∷ []) short;
-      sent = λ short.
-          flat_map-append (packet_of p l) done.out (entry ∷ [])
-          ∙ ap (λ xs. packets_of p l done.out ++ xs) (ap (λ xs. xs ++ []) is ∙ ap (λ xs. more ++ xs) (sym (no-orders t p word o).1));
-    }
+-- link m was j, and then these orders were given to its automata; the packets among the frames that went out on it since
+pub record Follows (m word : ℕ) (os : Proto → List Order) (more : Proto → List (List ℕ)) (j : Link) (before : List Entry) (after : Done) : Type 0 where
+  pub link : Link
+  pub at : slice_get after.links (m - 1) ≡ Some link
+  pub tables : link.tables ≡ j.tables
+  pub deframer : link.deframer ≡ j.deframer
+  pub auto : (p : Proto) → auto_at link.automata p ≡ auto_by j.tables p word (os p) (auto_at j.automata p)
+  pub short : AreShort after.out → AreShort before
+  pub sent : AreShort after.out → (p : Proto) → packets_of p m after.out ≡ packets_of p m before ++ more p
 
-stays : (p : Proto) (l : ℕ) (t : LinkTables) (word : ℕ) (done : Done) → Follows p l t word [] (sent_by t p word [] (auto_at done.link.automata p)) done done
-stays p l t word done =
-    let o = auto_at done.link.automata p in
-    record {
-      tables = refl;
-      auto = sym (no-orders t p word o).0;
-      short = λ short. short;
-      sent = λ short. sym (append-nil (packets_of p l done.out)) ∙ ap (λ xs. packets_of p l done.out ++ xs) (sym (no-orders t p word o).1);
-    }
-
--- control protocols that went Up or Down together
-ran : (p : Proto) (l word : ℕ) (os : List Order) (done : Done) (did : Did) → Tracks p done.link.tables word os (begins done.link.automata) did →
-    Follows p l done.link.tables word os (sent_by done.link.tables p word os (auto_at done.link.automata p)) done (record { link = link_with done.link did; out = done.out ++ all_plain l did.out })
-ran p l word os done did tracks = record {
-  tables = refl;
-  auto = tracks.auto;
-  short = λ short. short-front done.out (all_plain l did.out) short;
-  sent = λ short.
-      flat_map-append (packet_of p l) done.out (all_plain l did.out)
-      ∙ ap (λ xs. packets_of p l done.out ++ xs) (plain-packets p l did.out ∙ tracks.sent (plain-short l did.out (short-behind done.out (all_plain l did.out) short)));
+behind : (m word : ℕ) (os next all : Proto → List Order) (xs ys zs : Proto → List (List ℕ)) (j : Link) (before : List Entry) (mid after : Done)
+    (one : Follows m word os xs j before mid) → Follows m word next ys one.link mid.out after →
+    ((p : Proto) → os p ++ next p ≡ all p) → ((p : Proto) → xs p ++ ys p ≡ zs p) → Follows m word all zs j before after
+behind m word os next all xs ys zs j before mid after one two orders packets = record {
+  link = two.link;
+  at = two.at;
+  tables = two.tables ∙ one.tables;
+  deframer = two.deframer ∙ one.deframer;
+  auto = λ p.
+      two.auto p
+      ∙ (λ i. auto_by (one.tables i) p word (next p) (one.auto p i))
+      ∙ sym (auto_by-append j.tables p word (os p) (next p) (auto_at j.automata p))
+      ∙ ap (λ os. auto_by j.tables p word os (auto_at j.automata p)) (orders p);
+  short = λ short. one.short (two.short short);
+  sent = λ short p.
+      two.sent short p
+      ∙ ap (λ ps. ps ++ ys p) (one.sent (two.short short) p)
+      ∙ append_assoc (packets_of p m before) (xs p) (ys p)
+      ∙ ap (λ ps. packets_of p m before ++ ps) (packets p);
 }
 
-handed : (p : Proto) (l : ℕ) (t : LinkTables) (word number : ℕ) (octets : List ℕ) (done : Done) (b : Bool) →
-    Follows p l t word [] (sent_by t p word [] (auto_at done.link.automata p)) done (if b then and_tells done (Got None number octets) else done)
-handed p l t word number octets done true = tells p l t word done (Got None number octets) [] refl
-handed p l t word number octets done false = stays p l t word done
+-- nothing was given to them
+untouched : (m word : ℕ) (os : Proto → List Order) (xs : Proto → List (List ℕ)) (j : Link) (before more : List Entry) (after : Done) →
+    ((p : Proto) → os p ≡ []) → slice_get after.links (m - 1) ≡ Some j → after.out ≡ before ++ more → ((p : Proto) → packets_of p m more ≡ xs p) →
+    Follows m word os (λ p. xs p ++ sends word os j p) j before after
+untouched m word os xs j before more after none at out packets = record {
+  link = j;
+  at = at;
+  tables = refl;
+  deframer = refl;
+  auto = λ p. sym (no-orders j.tables p word (auto_at j.automata p)).0 ∙ ap (λ os. auto_by j.tables p word os (auto_at j.automata p)) (sym (none p));
+  short = λ short. short-front before more (subst AreShort out short);
+  sent = λ short p.
+      ap (packets_of p m) out
+      ∙ flat_map-append (packet_of p m) before more
+      ∙ ap (λ ps. packets_of p m before ++ ps) (
+      packets p
+      ∙ sym (append-nil (xs p))
+      ∙ ap (λ ps. xs p ++ ps) (sym (no-orders j.tables p word (auto_at j.automata p)).1 ∙ ap (λ os. sent_by j.tables p word os (auto_at j.automata p)) (sym (none p)))
+      );
+}
 
-one-follows : (p : Proto) (l word : ℕ) (e : LinkTold) (done : Done) →
-    Follows p l done.link.tables word (caused p e) (link_packet p e ++ sent_by done.link.tables p word (caused p e) (auto_at done.link.automata p)) done (works_one l word e done)
-unfolding works_one runs
-one-follows p l word (told.Push octets) done = tells p l done.link.tables word done (Push l octets) (link_packet p (told.Push octets)) (own-packet p l octets)
-one-follows p l word told.LcpUp done = ran p l word (of_run p Up) done (run_did done.link true false word) (run-tracks p done.link.tables word Up (begins done.link.automata))
-one-follows p l word told.LcpDown done = ran p l word (of_run p Down) done (run_did done.link false false word) (run-tracks p done.link.tables word Down (begins done.link.automata))
-one-follows p l word told.Finished done = tells p l done.link.tables word done (Hang l) [] refl
-one-follows p l word (told.NetUp q) done = stays p l done.link.tables word done
-one-follows p l word (told.NetDown q) done = stays p l done.link.tables word done
-one-follows p l word (told.Payload number octets) done = handed p l done.link.tables word number octets done (is_opened_at done.link (opener_of number))
+-- ---- control protocols that go Up or Down together
+
+run-own : (p : Proto) (r : Run) → of_group p r.bacp (run_by r.on) ≡ of_run r.link p r
+run-own p r = rw (eq-eqb r.link r.link refl) refl
+
+run-other : (m : ℕ) (p : Proto) (r : Run) → r.link ≢ m → of_run m p r ≡ []
+run-other m p r other = rw (ne_eqb r.link m other) refl
+
+ran-own : (word : ℕ) (r : Run) (done : Done) (j : Link) → 1 ≤ r.link → slice_get done.links (r.link - 1) ≡ Some j →
+    Follows r.link word (λ p. of_run r.link p r) (sends word (λ p. of_run r.link p r) j) j done.out (runs_at r word (Some j) done)
+ran-own word r done j low there =
+    let did = run_did j r.on r.bacp word in
+    let more = all_plain r.link did.out in
+    record {
+      link = link_with j did;
+      at = with-own done.links r.link (link_with j did) j low there;
+      tables = refl;
+      deframer = refl;
+      auto = λ p. (run-tracks p j.tables r.bacp word (run_by r.on) (begins j.automata)).auto ∙ ap (λ os. auto_by j.tables p word os (auto_at j.automata p)) (run-own p r);
+      short = λ short. short-front done.out more short;
+      sent = λ short p.
+          flat_map-append (packet_of p r.link) done.out more
+          ∙ ap (λ ps. packets_of p r.link done.out ++ ps) (
+          plain-packets p r.link did.out
+          ∙ (run-tracks p j.tables r.bacp word (run_by r.on) (begins j.automata)).sent (plain-short r.link did.out (short-behind done.out more short))
+          ∙ ap (λ os. sent_by j.tables p word os (auto_at j.automata p)) (run-own p r)
+          );
+    }
+
+ran-other : (m word : ℕ) (r : Run) (done : Done) (j : Link) (o : Option Link) → 1 ≤ m → r.link ≢ m → slice_get done.links (m - 1) ≡ Some j →
+    Follows m word (λ p. of_run m p r) (sends word (λ p. of_run m p r) j) j done.out (runs_at r word o done)
+ran-other m word r done j None low other there =
+    untouched m word (λ p. of_run m p r) (λ p. []) j done.out [] done (λ p. run-other m p r other) there (sym (append-nil done.out)) (λ p. refl)
+ran-other m word r done j (Some k) low other there =
+    let did = run_did k r.on r.bacp word in
+    untouched m word (λ p. of_run m p r) (λ p. []) j done.out (all_plain r.link did.out) (runs_at r word (Some k) done)
+    (λ p. run-other m p r other) (with-others done.links r.link m (link_with k did) low other ∙ there) refl (λ p. plain-elsewhere p r.link m did.out other)
+
+ran-by : (m word : ℕ) (r : Run) (done : Done) (j : Link) → 1 ≤ m → slice_get done.links (m - 1) ≡ Some j → (r.link ≡ m) ⊎ (r.link ≢ m) →
+    Follows m word (λ p. of_run m p r) (sends word (λ p. of_run m p r) j) j done.out (runs word r done)
+unfolding runs
+ran-by m word r done j low there (inl same) =
+    let here : slice_get done.links (r.link - 1) ≡ Some j = ap (λ n. slice_get done.links (n - 1)) same ∙ there in
+    let own = ran-own word r done j (subst (λ n. 1 ≤ n) (sym same) low) here in
+    subst (λ m. Follows m word (λ p. of_run m p r) (sends word (λ p. of_run m p r) j) j done.out (runs_at r word (slice_get done.links (r.link - 1)) done)) same
+    (subst (λ o. Follows r.link word (λ p. of_run r.link p r) (sends word (λ p. of_run r.link p r) j) j done.out (runs_at r word o done)) (sym here) own)
+ran-by m word r done j low there (inr other) = ran-other m word r done j (slice_get done.links (r.link - 1)) low other there
+
+ran : (m word : ℕ) (r : Run) (done : Done) (j : Link) → 1 ≤ m → slice_get done.links (m - 1) ≡ Some j →
+    Follows m word (λ p. of_run m p r) (sends word (λ p. of_run m p r) j) j done.out (runs word r done)
+ran m word r done j low there = ran-by m word r done j low there (same-or r.link m)
+
+-- what is sent by orders, and then by more of them
+sends-then : (m word : ℕ) (os next : Proto → List Order) (xs : Proto → List (List ℕ)) (j : Link) (before : List Entry) (after : Done) (one : Follows m word os xs j before after) (p : Proto) →
+    sends word os j p ++ sends word next one.link p ≡ sends word (λ p. os p ++ next p) j p
+sends-then m word os next xs j before after one p =
+    (λ i. sends word os j p ++ sent_by (one.tables i) p word (next p) (one.auto p i))
+    ∙ sym (sent_by-append j.tables p word (os p) (next p) (auto_at j.automata p))
+
+pub all-ran : (m word : ℕ) (rs : List Run) (done : Done) (j : Link) → 1 ≤ m → slice_get done.links (m - 1) ≡ Some j →
+    Follows m word (λ p. of_runs m p rs) (sends word (λ p. of_runs m p rs) j) j done.out (runs_all word rs done)
+unfolding runs_all
+all-ran m word [] done j low there = untouched m word (λ p. []) (λ p. []) j done.out [] done (λ p. refl) there (sym (append-nil done.out)) (λ p. refl)
+all-ran m word (r ∷ rs) done j low there =
+    let one = ran m word r done j low there in
+    let mid = runs word r done in
+    behind m word (λ p. of_run m p r) (λ p. of_runs m p rs) (λ p. of_runs m p (r ∷ rs)) (sends word (λ p. of_run m p r) j) (sends word (λ p. of_runs m p rs) one.link) (sends word (λ p. of_runs m p (r ∷ rs)) j)
+    j done.out mid (runs_all word rs mid) one (all-ran m word rs mid one.link low one.at)
+    (λ p. refl) (sends-then m word (λ p. of_run m p r) (λ p. of_runs m p rs) (sends word (λ p. of_run m p r) j) j done.out mid one)
+
+-- runs change no bundle
+at-bundles : (word : ℕ) (r : Run) (o : Option Link) (done : Done) → (runs_at r word o done).bundles ≡ done.bundles
+at-bundles word r None done = refl
+at-bundles word r (Some k) done = refl
+
+pub all-bundles : (word : ℕ) (rs : List Run) (done : Done) → (runs_all word rs done).bundles ≡ done.bundles
+unfolding runs_all runs
+all-bundles word [] done = refl
+all-bundles word (r ∷ rs) done = all-bundles word rs (runs word r done) ∙ at-bundles word r (slice_get done.links (r.link - 1)) done
+
+-- ---- one entry
+
+-- the packets of an entry of link l, and then what it causes at link m
+abbrev one_woven : ℕ → ℕ → ℕ → Auto → LinkTold → Bundles → Link → Proto → List (List ℕ)
+one_woven l m word lcp e b j p = packets_of p m (plain l e) ++ sends word (λ p. of_runs m p (caused_by l lcp e b).runs) j p
+
+tells : (m word : ℕ) (done : Done) (entry : Entry) (j : Link) → slice_get done.links (m - 1) ≡ Some j →
+    Follows m word (λ p. []) (λ p. packets_of p m (entry ∷ []) ++ sends word (λ p. []) j p) j done.out (and_tells done entry)
+tells m word done entry j there = untouched m word (λ p. []) (λ p. packets_of p m (entry ∷ [])) j done.out (entry ∷ []) (and_tells done entry) (λ p. refl) there refl (λ p. refl)
+
+stays : (m word : ℕ) (done : Done) (j : Link) → slice_get done.links (m - 1) ≡ Some j → Follows m word (λ p. []) (sends word (λ p. []) j) j done.out done
+stays m word done j there = untouched m word (λ p. []) (λ p. []) j done.out [] done (λ p. refl) there (sym (append-nil done.out)) (λ p. refl)
+
+handed : (m word number : ℕ) (octets : List ℕ) (done : Done) (j : Link) (b : Bool) → slice_get done.links (m - 1) ≡ Some j →
+    Follows m word (λ p. []) (sends word (λ p. []) j) j done.out (if b then and_tells done (Got None number octets) else done)
+handed m word number octets done j true there = tells m word done (Got None number octets) j there
+handed m word number octets done j false there = stays m word done j there
+
+followed : (m word : ℕ) (moved : Moved) (done : Done) (j : Link) → 1 ≤ m → slice_get done.links (m - 1) ≡ Some j →
+    Follows m word (λ p. of_runs m p moved.runs) (sends word (λ p. of_runs m p moved.runs) j) j done.out (follows word moved done)
+followed m word moved done j low there = all-ran m word moved.runs (record done { bundles = moved.bundles }) j low there
+
+came : (l m word : ℕ) (lcp : Auto) (done : Done) (k j : Link) (o : Option Link) → o ≡ Some k → k.automata.lcp ≡ lcp → 1 ≤ m → slice_get done.links (m - 1) ≡ Some j →
+    let rs = (comes l (key_in lcp) done.bundles).runs in
+    Follows m word (λ p. of_runs m p rs) (sends word (λ p. of_runs m p rs) j) j done.out (comes_up l word o done)
+came l m word lcp done k j o is same low there =
+    let os : Auto → Proto → List Order = λ lcp p. of_runs m p (comes l (key_in lcp) done.bundles).runs in
+    subst (λ o. Follows m word (os lcp) (sends word (os lcp) j) j done.out (comes_up l word o done)) (sym is)
+    (subst (λ lcp. Follows m word (os lcp) (sends word (os lcp) j) j done.out (comes_up l word (Some k) done)) same (followed m word (comes l (key_in k.automata.lcp) done.bundles) done j low there))
+
+one-follows : (l m word : ℕ) (lcp : Auto) (e : LinkTold) (done : Done) (k j : Link) → slice_get done.links (l - 1) ≡ Some k → k.automata.lcp ≡ lcp →
+    1 ≤ m → slice_get done.links (m - 1) ≡ Some j →
+    Follows m word (λ p. of_runs m p (caused_by l lcp e done.bundles).runs) (one_woven l m word lcp e done.bundles j) j done.out (works_one l word e done)
+unfolding works_one
+one-follows l m word lcp (told.Push octets) done k j own same low there = tells m word done (Push l octets) j there
+one-follows l m word lcp told.LcpUp done k j own same low there = came l m word lcp done k j (slice_get done.links (l - 1)) own same low there
+one-follows l m word lcp told.LcpDown done k j own same low there = followed m word (goes l done.bundles) done j low there
+one-follows l m word lcp told.Finished done k j own same low there = tells m word done (Hang l) j there
+one-follows l m word lcp (told.NetUp q) done k j own same low there = stays m word done j there
+one-follows l m word lcp (told.NetDown q) done k j own same low there = stays m word done j there
+one-follows l m word lcp (told.Payload number octets) done k j own same low there =
+    handed m word number octets done j (is_opened_on done.links l (opener_of number) || is_opened_control done.links (control_for l done.bundles) (opener_of number)) there
+
+came-bundles : (l word : ℕ) (lcp : Auto) (done : Done) (k : Link) (o : Option Link) → o ≡ Some k → k.automata.lcp ≡ lcp → (comes_up l word o done).bundles ≡ (comes l (key_in lcp) done.bundles).bundles
+came-bundles l word lcp done k o is same =
+    let moved = comes l (key_in k.automata.lcp) done.bundles in
+    ap (λ o. (comes_up l word o done).bundles) is
+    ∙ all-bundles word moved.runs (record done { bundles = moved.bundles })
+    ∙ ap (λ lcp. (comes l (key_in lcp) done.bundles).bundles) same
+
+handed-bundles : (number : ℕ) (octets : List ℕ) (done : Done) (b : Bool) → (if b then and_tells done (Got None number octets) else done).bundles ≡ done.bundles
+handed-bundles number octets done true = refl
+handed-bundles number octets done false = refl
+
+pub one-bundles : (l word : ℕ) (lcp : Auto) (e : LinkTold) (done : Done) (k : Link) → slice_get done.links (l - 1) ≡ Some k → k.automata.lcp ≡ lcp →
+    (works_one l word e done).bundles ≡ (caused_by l lcp e done.bundles).bundles
+unfolding works_one
+one-bundles l word lcp (told.Push octets) done k own same = refl
+one-bundles l word lcp told.LcpUp done k own same = came-bundles l word lcp done k (slice_get done.links (l - 1)) own same
+one-bundles l word lcp told.LcpDown done k own same = all-bundles word (goes l done.bundles).runs (record done { bundles = (goes l done.bundles).bundles })
+one-bundles l word lcp told.Finished done k own same = refl
+one-bundles l word lcp (told.NetUp q) done k own same = refl
+one-bundles l word lcp (told.NetDown q) done k own same = refl
+one-bundles l word lcp (told.Payload number octets) done k own same =
+    handed-bundles number octets done (is_opened_on done.links l (opener_of number) || is_opened_control done.links (control_for l done.bundles) (opener_of number))
 
 -- ---- all of them
 
--- the packets of entries, and of what each of them causes, in order
-abbrev woven : Proto → LinkTables → ℕ → List LinkTold → Option Auto → List (List ℕ)
-woven p t word [] o = []
-woven p t word (e ∷ es) o = (link_packet p e ++ sent_by t p word (caused p e) o) ++ woven p t word es (auto_by t p word (caused p e) o)
+-- LCP goes Up or Down by no run
+pub lcp-runs : (m : ℕ) (rs : List Run) → of_runs m Lcp rs ≡ []
+lcp-runs m [] = refl
+lcp-runs m (r ∷ rs) = ap (λ os. os ++ of_runs m Lcp rs) (by (r.link == m)) ∙ lcp-runs m rs
+  where
+    by : (b : Bool) → (if b && false then Commands (run_by r.on) ∷ [] else []) ≡ []
+    by true = refl
+    by false = refl
 
-works-follows : (p : Proto) (l word : ℕ) (es : List LinkTold) (done : Done) →
-    Follows p l done.link.tables word (all_caused p es) (woven p done.link.tables word es (auto_at done.link.automata p)) done (works l word es done)
+lcp-stays : (m word : ℕ) (rs : List Run) (more : Proto → List (List ℕ)) (j : Link) (before : List Entry) (after : Done) (one : Follows m word (λ p. of_runs m p rs) more j before after) →
+    one.link.automata.lcp ≡ j.automata.lcp
+lcp-stays m word rs more j before after one =
+    let is : Some one.link.automata.lcp ≡ Some j.automata.lcp = one.auto Lcp ∙ ap (λ os. auto_by j.tables Lcp word os (Some j.automata.lcp)) (lcp-runs m rs) in
+    cc
+
+-- the packets of entries of link l, and of what each of them causes at link m, in order
+abbrev pub woven : ℕ → ℕ → Proto → LinkTables → ℕ → Auto → List LinkTold → Bundles → Option Auto → List (List ℕ)
+woven l m p t word lcp [] b o = []
+woven l m p t word lcp (e ∷ es) b o =
+    let first = caused_by l lcp e b in
+    let os = of_runs m p first.runs in
+    (packets_of p m (plain l e) ++ sent_by t p word os o) ++ woven l m p t word lcp es first.bundles (auto_by t p word os o)
+
+-- what the entries cause at link m
+abbrev pub orders_for : ℕ → ℕ → Auto → List LinkTold → Bundles → Proto → List Order
+orders_for l m lcp es b p = of_runs m p (caused l lcp es b).runs
+
+abbrev pub all_woven : ℕ → ℕ → ℕ → Auto → List LinkTold → Bundles → Link → Proto → List (List ℕ)
+all_woven l m word lcp es b j p = woven l m p j.tables word lcp es b (auto_at j.automata p)
+
+pub works-follows : (l m word : ℕ) (lcp : Auto) (es : List LinkTold) (done : Done) (k j : Link) → 1 ≤ l → slice_get done.links (l - 1) ≡ Some k → k.automata.lcp ≡ lcp →
+    1 ≤ m → slice_get done.links (m - 1) ≡ Some j →
+    Follows m word (orders_for l m lcp es done.bundles) (all_woven l m word lcp es done.bundles j) j done.out (works l word es done)
 unfolding works
-works-follows p l word [] done =
-    let o = auto_at done.link.automata p in
-    record {
-      tables = refl;
-      auto = sym (no-orders done.link.tables p word o).0;
-      short = λ short. short;
-      sent = λ short. sym (append-nil (packets_of p l done.out));
-    }
-works-follows p l word (e ∷ es) done =
-    let t = done.link.tables in
-    let o = auto_at done.link.automata p in
+works-follows l m word lcp [] done k j from own same low there = record {
+  link = j;
+  at = there;
+  tables = refl;
+  deframer = refl;
+  auto = λ p. sym (no-orders j.tables p word (auto_at j.automata p)).0;
+  short = λ short. short;
+  sent = λ short p. sym (append-nil (packets_of p m done.out));
+}
+works-follows l m word lcp (e ∷ es) done k j from own same low there =
+    let first = caused_by l lcp e done.bundles in
     let mid = works_one l word e done in
-    let one = one-follows p l word e done in
-    let own = works-follows p l word es mid in
-    let rest : Follows p l t word (all_caused p es) (woven p t word es (auto_at mid.link.automata p)) mid (works l word es mid) =
-    subst (λ t. Follows p l t word (all_caused p es) (woven p t word es (auto_at mid.link.automata p)) mid (works l word es mid)) one.tables own in
-    record {
-      tables = rest.tables ∙ one.tables;
-      auto = rest.auto ∙ ap (auto_by t p word (all_caused p es)) one.auto ∙ sym (auto_by-append t p word (caused p e) (all_caused p es) o);
-      short = λ short. one.short (rest.short short);
-      sent = λ short.
-          rest.sent short
-          ∙ ap (λ xs. xs ++ woven p t word es (auto_at mid.link.automata p)) (one.sent (rest.short short))
-          ∙ append_assoc (packets_of p l done.out) (link_packet p e ++ sent_by t p word (caused p e) o) (woven p t word es (auto_at mid.link.automata p))
-          ∙ ap (λ o. packets_of p l done.out ++ ((link_packet p e ++ sent_by t p word (caused p e) (auto_at done.link.automata p)) ++ woven p t word es o)) one.auto;
-    }
+    let here = one-follows l l word lcp e done k k own same from own in
+    let one = one-follows l m word lcp e done k j own same low there in
+    let bundles = one-bundles l word lcp e done k own same in
+    let lcp_is = lcp-stays l word first.runs (one_woven l l word lcp e done.bundles k) k done.out mid here ∙ same in
+    behind m word (λ p. of_runs m p first.runs) (orders_for l m lcp es mid.bundles) (orders_for l m lcp (e ∷ es) done.bundles)
+    (one_woven l m word lcp e done.bundles j) (all_woven l m word lcp es mid.bundles one.link) (all_woven l m word lcp (e ∷ es) done.bundles j)
+    j done.out mid (works l word es mid) one (works-follows l m word lcp es mid here.link one.link from here.at lcp_is low one.at)
+    (λ p. ap (λ b. of_runs m p first.runs ++ orders_for l m lcp es b p) bundles ∙ sym (flat_map-append (of_run m p) first.runs (caused l lcp es first.bundles).runs))
+    (λ p i. one_woven l m word lcp e done.bundles j p ++ woven l m p (one.tables i) word lcp es (bundles i) (one.auto p i))
 
--- without packets of their own, and without signals
-woven-caused : (p : Proto) (t : LinkTables) (word : ℕ) (es : List LinkTold) (o : Option Auto) → link_packets p es ≡ [] → woven p t word es o ≡ sent_by t p word (all_caused p es) o
-woven-caused p t word [] o none = sym (no-orders t p word o).1
-woven-caused p t word (e ∷ es) o none =
-    let next = auto_by t p word (caused p e) o in
-    ap (λ xs. (xs ++ sent_by t p word (caused p e) o) ++ woven p t word es next) (nil-front (link_packet p e) (link_packets p es) none)
-    ∙ ap (λ xs. sent_by t p word (caused p e) o ++ xs) (woven-caused p t word es next (nil-behind (link_packet p e) (link_packets p es) none))
-    ∙ sym (sent_by-append t p word (caused p e) (all_caused p es) o)
-
-woven-own : (p : Proto) (t : LinkTables) (word : ℕ) (es : List LinkTold) (o : Option Auto) → all_caused p es ≡ [] → woven p t word es o ≡ link_packets p es
-woven-own p t word [] o none = refl
-woven-own p t word (e ∷ es) o none =
-    let next = auto_by t p word (caused p e) o in
-    ap (λ os. (link_packet p e ++ sent_by t p word os o) ++ woven p t word es next) (nil-front (caused p e) (all_caused p es) none)
-    ∙ ap (λ xs. (link_packet p e ++ xs) ++ woven p t word es next) (no-orders t p word o).1
-    ∙ ap (λ xs. xs ++ woven p t word es next) (append-nil (link_packet p e))
-    ∙ ap (λ xs. link_packet p e ++ xs) (woven-own p t word es next (nil-behind (caused p e) (all_caused p es) none))
-
--- ---- the whole of what happens to a link
+pub works-bundles : (l word : ℕ) (lcp : Auto) (es : List LinkTold) (done : Done) (k : Link) → 1 ≤ l → slice_get done.links (l - 1) ≡ Some k → k.automata.lcp ≡ lcp →
+    (works l word es done).bundles ≡ (caused l lcp es done.bundles).bundles
+unfolding works
+works-bundles l word lcp [] done k from own same = refl
+works-bundles l word lcp (e ∷ es) done k from own same =
+    let first = caused_by l lcp e done.bundles in
+    let mid = works_one l word e done in
+    let here = one-follows l l word lcp e done k k own same from own in
+    let lcp_is = lcp-stays l word first.runs (one_woven l l word lcp e done.bundles k) k done.out mid here ∙ same in
+    works-bundles l word lcp es mid here.link from here.at lcp_is
+    ∙ ap (λ b. (caused l lcp es b).bundles) (one-bundles l word lcp e done k own same)
 
 one-short : (l word : ℕ) (e : LinkTold) (done : Done) → AreShort (works_one l word e done).out → IsShortPush e
 unfolding works_one
@@ -190,50 +359,64 @@ one-short l word (told.NetUp q) done short = tt
 one-short l word (told.NetDown q) done short = tt
 one-short l word (told.Payload number octets) done short = tt
 
-works-short : (l word : ℕ) (es : List LinkTold) (done : Done) → AreShort (works l word es done).out → AllShort es
+pub works-short : (l word : ℕ) (lcp : Auto) (es : List LinkTold) (done : Done) (k : Link) → 1 ≤ l → slice_get done.links (l - 1) ≡ Some k → k.automata.lcp ≡ lcp →
+    AreShort (works l word es done).out → AllShort es
 unfolding works
-works-short l word [] done short = tt
-works-short l word (e ∷ es) done short =
+works-short l word lcp [] done k from own same short = tt
+works-short l word lcp (e ∷ es) done k from own same short =
+    let first = caused_by l lcp e done.bundles in
     let mid = works_one l word e done in
-    let rest = works-follows Lcp l word es mid in
-    (one-short l word e done (rest.short short), works-short l word es mid short)
+    let here = one-follows l l word lcp e done k k own same from own in
+    let lcp_is = lcp-stays l word first.runs (one_woven l l word lcp e done.bundles k) k done.out mid here ∙ same in
+    let rest = works-follows l l word lcp es mid here.link here.link from here.at lcp_is from here.at in
+    (one-short l word e done (rest.short short), works-short l word lcp es mid here.link from here.at lcp_is short)
 
--- where there are packets or signals of a link's step, but not both, what was woven is its own and then what was caused
-unwoven : (p : Proto) (t : LinkTables) (word : ℕ) (os : List Order) (es : List LinkTold) (o : Option Auto) → IsParted p es → link_packets p es ≡ sent_by t p word os o →
-    woven p t word es (auto_by t p word os o) ≡ sent_by t p word (os ++ all_caused p es) o
-unwoven p t word os es o (inl none) own =
-    woven-caused p t word es (auto_by t p word os o) none
-    ∙ ap (λ xs. xs ++ sent_by t p word (all_caused p es) (auto_by t p word os o)) (sym none ∙ own)
-    ∙ sym (sent_by-append t p word os (all_caused p es) o)
-unwoven p t word os es o (inr none) own =
-    woven-own p t word es (auto_by t p word os o) none
+-- ---- own packets, and then those of what was caused
+
+-- entries without packets of their own
+woven-caused : (l m : ℕ) (p : Proto) (t : LinkTables) (word : ℕ) (lcp : Auto) (es : List LinkTold) (b : Bundles) (o : Option Auto) → packets_of p m (all_plain l es) ≡ [] →
+    woven l m p t word lcp es b o ≡ sent_by t p word (orders_for l m lcp es b p) o
+woven-caused l m p t word lcp [] b o none = sym (no-orders t p word o).1
+woven-caused l m p t word lcp (e ∷ es) b o none =
+    let first = caused_by l lcp e b in
+    let os = of_runs m p first.runs in
+    let next = auto_by t p word os o in
+    let more = orders_for l m lcp es first.bundles p in
+    let both : packets_of p m (plain l e) ++ packets_of p m (all_plain l es) ≡ [] = sym (flat_map-append (packet_of p m) (plain l e) (all_plain l es)) ∙ none in
+    ap (λ xs. (xs ++ sent_by t p word os o) ++ woven l m p t word lcp es first.bundles next) (nil-front (packets_of p m (plain l e)) (packets_of p m (all_plain l es)) both)
+    ∙ ap (λ xs. sent_by t p word os o ++ xs) (woven-caused l m p t word lcp es first.bundles next (nil-behind (packets_of p m (plain l e)) (packets_of p m (all_plain l es)) both))
+    ∙ sym (sent_by-append t p word os more o)
+    ∙ ap (λ os. sent_by t p word os o) (sym (flat_map-append (of_run m p) first.runs (caused l lcp es first.bundles).runs))
+
+-- entries that cause nothing there
+woven-own : (l m : ℕ) (p : Proto) (t : LinkTables) (word : ℕ) (lcp : Auto) (es : List LinkTold) (b : Bundles) (o : Option Auto) → orders_for l m lcp es b p ≡ [] →
+    woven l m p t word lcp es b o ≡ packets_of p m (all_plain l es)
+woven-own l m p t word lcp [] b o none = refl
+woven-own l m p t word lcp (e ∷ es) b o none =
+    let first = caused_by l lcp e b in
+    let os = of_runs m p first.runs in
+    let more = orders_for l m lcp es first.bundles p in
+    let next = auto_by t p word os o in
+    let own = packets_of p m (plain l e) in
+    let both : os ++ more ≡ [] = sym (flat_map-append (of_run m p) first.runs (caused l lcp es first.bundles).runs) ∙ none in
+    ap (λ os. (own ++ sent_by t p word os o) ++ woven l m p t word lcp es first.bundles next) (nil-front os more both)
+    ∙ ap (λ xs. (own ++ xs) ++ woven l m p t word lcp es first.bundles next) (no-orders t p word o).1
+    ∙ ap (λ xs. xs ++ woven l m p t word lcp es first.bundles next) (append-nil own)
+    ∙ ap (λ xs. own ++ xs) (woven-own l m p t word lcp es first.bundles next (nil-behind os more both))
+    ∙ sym (flat_map-append (packet_of p m) (plain l e) (all_plain l es))
+
+-- the entries of link l have no packet of the protocol on link m, or cause nothing there
+abbrev pub IsApart : ℕ → ℕ → Proto → Auto → List LinkTold → Bundles → Type 0
+IsApart l m p lcp es b = (packets_of p m (all_plain l es) ≡ []) ⊎ (orders_for l m lcp es b p ≡ [])
+
+pub unwoven : (l m : ℕ) (p : Proto) (t : LinkTables) (word : ℕ) (os : List Order) (lcp : Auto) (es : List LinkTold) (b : Bundles) (o : Option Auto) → IsApart l m p lcp es b →
+    packets_of p m (all_plain l es) ≡ sent_by t p word os o → woven l m p t word lcp es b (auto_by t p word os o) ≡ sent_by t p word (os ++ orders_for l m lcp es b p) o
+unwoven l m p t word os lcp es b o (inl none) own =
+    let more = orders_for l m lcp es b p in
+    woven-caused l m p t word lcp es b (auto_by t p word os o) none
+    ∙ ap (λ xs. xs ++ sent_by t p word more (auto_by t p word os o)) (sym none ∙ own)
+    ∙ sym (sent_by-append t p word os more o)
+unwoven l m p t word os lcp es b o (inr none) own =
+    woven-own l m p t word lcp es b (auto_by t p word os o) none
     ∙ own
     ∙ ap (λ os. sent_by t p word os o) (sym (append-nil os) ∙ ap (λ more. os ++ more) (sym none))
-
-pub done-auto : (p : Proto) (what : Happening) (l word : ℕ) (k : Link) → auto_at (link_done what l k word).link.automata p ≡ auto_by k.tables p word (orders p what k word) (auto_at k.automata p)
-unfolding orders
-done-auto p what l word k =
-    let fed = link_does what k word in
-    let first = link-tracks p what k word in
-    let rest = works-follows p l word fed.out (record { link = fed.link; out = [] }) in
-    rest.auto
-    ∙ (λ i. auto_by (first.tables i) p word (all_caused p fed.out) (first.auto i))
-    ∙ sym (auto_by-append k.tables p word (of_link p what k word) (all_caused p fed.out) (auto_at k.automata p))
-
-pub done-sent : (p : Proto) (what : Happening) (l word : ℕ) (k : Link) → AreShort (link_done what l k word).out →
-    packets_of p l (link_done what l k word).out ≡ sent_by k.tables p word (orders p what k word) (auto_at k.automata p)
-unfolding orders
-done-sent p what l word k short =
-    let fed = link_does what k word in
-    let begun : Done = record { link = fed.link; out = [] } in
-    let first = link-tracks p what k word in
-    let rest = works-follows p l word fed.out begun in
-    let told = works-short l word fed.out begun short in
-    rest.sent short
-    ∙ (λ i. woven p (first.tables i) word fed.out (first.auto i))
-    ∙ unwoven p k.tables word (of_link p what k word) fed.out (auto_at k.automata p) (link-parted p what k word told) (first.sent told)
-
-pub done-tables : (what : Happening) (l word : ℕ) (k : Link) → (link_done what l k word).link.tables ≡ k.tables
-done-tables what l word k =
-    let fed = link_does what k word in
-    (works-follows Lcp l word fed.out (record { link = fed.link; out = [] })).tables ∙ (link-tracks Lcp what k word).tables

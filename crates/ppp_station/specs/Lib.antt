@@ -1,4 +1,6 @@
 pub mod Caps
+pub mod Control
+pub mod Moves
 pub mod Orders
 pub mod Phases
 pub mod Station

@@ -1,9 +1,9 @@
--- What an event of a station is to the automaton of one protocol on one link: orders, in the words of the laws on two ends.
-use Rattle.std.specs.Prelude.{ℕ, Bool, true, false, ◌==◌, ◌||◌, if◌then◌else◌, List, [], ◌∷◌, ◌++◌, Option, Some, None, option_map}
+-- What a step of a link is to the automaton of one of its protocols: orders, in the words of the laws on two ends.
+use Rattle.std.specs.Prelude.{ℕ, Bool, true, ◌==◌, ◌||◌, if◌then◌else◌, List, [], ◌∷◌, ◌++◌, Option, Some, None, option_map}
 use Rattle.std.specs.List.{flat_map}
 use Rattle.ppp_packet.specs.Proto.{proto_number, proto_of}
 use Rattle.ppp_packet.specs.declared.proto.Proto.{Proto}
-use Rattle.ppp_packet.specs.declared.proto.Proto.TheVariants.{Lcp, Ip, Ipv6, Osi, Mpls, Bacp}
+use Rattle.ppp_packet.specs.declared.proto.Proto.TheVariants.{Lcp}
 use Rattle.ppp_auto.specs.Auto.{Auto, is_opened}
 use Rattle.ppp_auto.specs.Automaton.{Acted, command, entries_of, take_octets}
 use Rattle.ppp_auto.specs.OptionTable.{Table}
@@ -15,13 +15,11 @@ use Rattle.ppp_frame.specs.Header.{Read}
 use Rattle.ppp_frame.specs.Standing.{fresh}
 use Rattle.ppp_link.specs.Automata.{Automata, cap_of, with_cap}
 use Rattle.ppp_link.specs.Link.{Link, read_by}
-use Rattle.ppp_link.specs.LinkOut.{Entry as LinkTold}
-use Rattle.ppp_link.specs.LinkOut as told
 use Rattle.ppp_link.specs.LinkTables.{LinkTables, table_of}
 use Rattle.ppp_link.specs.Steps.{Given, Event, Packet, after, is_payload, reject_packet, rejected_in, there, told_by}
 use Rattle.ppp_link.specs.declared.link.TheConstants.{MOST_FRAME}
 use Rattle.ppp_station.specs.StationOut.{Entry, Push, Got, Hang}
-use Rattle.ppp_station.specs.Steps.{Happening, LineUp, LineDown, Opens, Closes, TimesOut, Takes, link_does}
+use Rattle.ppp_station.specs.Steps.{Happening, LineUp, LineDown, Opens, Closes, TimesOut, Takes}
 
 -- ---- what an automaton does by orders
 
@@ -129,29 +127,6 @@ of_link p (Opens q) k word = of_given p k.tables word q (Event AdminOpen) k.auto
 of_link p (Closes q) k word = of_given p k.tables word q (Event AdminClose) k.automata
 of_link p (TimesOut q) k word = of_given p k.tables word q (Event Timeout) k.automata
 of_link p (Takes octets) k word = of_read p k.tables word (feed_step (read_by k.automata.lcp k.deframer) octets).left.frame k.automata
-
--- ---- what LCP's signals cause
-
--- whether it goes Up and Down with LCP on a single link; BACP doesn't
-abbrev pub is_net : Proto → Bool
-is_net Lcp = false
-is_net Ip = true
-is_net Ipv6 = true
-is_net Osi = true
-is_net Mpls = true
-is_net Bacp = false
-
-abbrev pub of_run : Proto → AutoEvent → List Order
-of_run p event = if is_net p then Commands event ∷ [] else []
-
-abbrev pub caused : Proto → LinkTold → List Order
-caused p told.LcpUp = of_run p Up
-caused p told.LcpDown = of_run p Down
-caused p entry = []
-
--- All of it: what the link's own step is to the protocol, and then, entry by entry, what its signals cause.
-unfoldable pub orders : Proto → Happening → Link → ℕ → List Order
-orders p what k word = of_link p what k word ++ flat_map (caused p) (link_does what k word).out
 
 -- the automaton of a protocol after its orders, and what it sends; nothing where it isn't configured
 abbrev pub auto_by : LinkTables → Proto → ℕ → List Order → Option Auto → Option Auto

@@ -1,16 +1,19 @@
--- One whole end of single links.
+-- One whole end: its links and bundles, and what an event makes of them.
 use Rattle.std.specs.Prelude.{◌≡◌, ℕ, zero, suc, ◌+◌, ◌-◌, ◌≤◌, List, [], ◌∷◌, ◌++◌, length, map, Option, Some, None, slice_get}
 use Rattle.std.specs.List.{AllByRecursion}
 use Rattle.ppp_conf.specs.EndConfig.{EndSettings}
 use Rattle.ppp_packet.specs.declared.proto.Proto.{Proto}
 use Rattle.ppp_packet.specs.declared.proto.Proto.TheVariants.{Bacp}
 use Rattle.ppp_auto.specs.declared.auto_event.AutoEvent.TheVariants.{AdminOpen}
-use Rattle.ppp_link.specs.Link.{Link, event_did, link_begun, link_with}
+use Rattle.ppp_bundle.specs.Bundles.{Bundles, bundles_begun}
+use Rattle.ppp_bundle.specs.declared.limits.Limits.{Limits}
+use Rattle.ppp_bundle.specs.declared.limits.TheConstants.{MOST_BUNDLES, MOST_LINKS, MOST_PEERS}
+use Rattle.ppp_link.specs.Link.{Fed, Link, event_did, link_begun, link_with}
 use Rattle.ppp_link.specs.LinkSettings.{LinkSettings, settings_of}
 use Rattle.ppp_link.specs.LinkTables.{LinkTables, tables_seen}
 use Rattle.ppp_link.specs.Proto.{nets}
 use Rattle.ppp_station.specs.StationOut.{Out}
-use Rattle.ppp_station.specs.Steps.{Happening, LineUp, LineDown, Opens, Closes, TimesOut, Takes, link_does, link_done, IsUsed}
+use Rattle.ppp_station.specs.Steps.{Done, Happening, LineUp, LineDown, Opens, Closes, TimesOut, Takes, link_does, with_link, works, IsUsed}
 use Rattle.ppp_station.specs.declared.station_event.StationEvent.{StationEvent}
 use Rattle.ppp_station.specs.declared.station_event.StationEvent.TheVariants as event
 
@@ -32,37 +35,49 @@ all_settings (suc more) number s = settings_of number s ∷ all_settings more (n
 abbrev pub IsReady : Link → Type 0
 IsReady k = k ≡ link_ready k.tables
 
--- the station after something happened to one of its links, from 1 on
-abbrev pub with_link : ℕ → Link → List Link → List Link
-with_link l k [] = []
-with_link zero k (x ∷ xs) = x ∷ xs
-with_link (suc zero) k (x ∷ xs) = k ∷ xs
-with_link (suc (suc l)) k (x ∷ xs) = x ∷ with_link (suc l) k xs
-
--- the links of a station, and what an event sends and tells
-pub record Stepped : Type 0 where
+pub record Station : Type 0 where
   pub links : List Link
+  pub bundles : Bundles
+
+-- the bundles of so many links, at most 8, of at most 256 peers that are remembered
+abbrev pub limits_of : ℕ → Limits
+limits_of links = record { links = links; bundles = MOST_BUNDLES; peers = MOST_PEERS }
+
+-- a station, and what an event sends and tells
+pub record Stepped : Type 0 where
+  pub station : Station
   pub out : Out
 
-abbrev pub stepped_by : Happening → ℕ → List Link → ℕ → Option Link → Stepped
-stepped_by what l links word None = record { links = links; out = record { entries = []; used = 0 } }
-stepped_by what l links word (Some k) =
-    let done = link_done what l k word in
-    record { links = with_link l done.link links; out = record { entries = done.out; used = (link_does what k word).used } }
+-- the station after the entries of a link's own step were worked off
+abbrev pub done_of : Done → ℕ → Stepped
+done_of done used = record {
+  station = record { links = done.links; bundles = done.bundles };
+  out = record { entries = done.out; used = used };
+}
+
+abbrev pub worked : ℕ → Fed → Station → ℕ → Done
+worked l fed st word = works l word fed.out (record { links = with_link l fed.link st.links; bundles = st.bundles; out = [] })
+
+abbrev pub stepped_by : Happening → ℕ → Station → ℕ → Option Link → Stepped
+stepped_by what l st word None = record { station = st; out = record { entries = []; used = 0 } }
+stepped_by what l st word (Some k) = let fed = link_does what k word in done_of (worked l fed st word) fed.used
 
 -- something happens to a link
-abbrev pub on_link : Happening → ℕ → List Link → ℕ → Stepped
-on_link what l links word = stepped_by what l links word (slice_get links (l - 1))
+abbrev pub on_link : Happening → ℕ → Station → ℕ → Stepped
+on_link what l st word = stepped_by what l st word (slice_get st.links (l - 1))
 
-abbrev pub station_does : StationEvent → List Link → ℕ → Stepped
-station_does (event.Up l) links word = on_link LineUp l links word
-station_does (event.Down l) links word = on_link LineDown l links word
-station_does (event.AdminOpen l p) links word = on_link (Opens p) l links word
-station_does (event.AdminClose l p) links word = on_link (Closes p) l links word
-station_does (event.Timeout l p) links word = on_link (TimesOut p) l links word
-station_does (event.Bytes l octets) links word = on_link (Takes octets.now) l links word
-station_does event.Reset links word =
-    record { links = map (λ k. link_ready k.tables) links; out = record { entries = []; used = 0 } }
+-- the station as it began
+abbrev pub station_anew : Station → Station
+station_anew st = record { links = map (λ k. link_ready k.tables) st.links; bundles = bundles_begun st.bundles.limits }
+
+abbrev pub station_does : StationEvent → Station → ℕ → Stepped
+station_does (event.Up l) st word = on_link LineUp l st word
+station_does (event.Down l) st word = on_link LineDown l st word
+station_does (event.AdminOpen l p) st word = on_link (Opens p) l st word
+station_does (event.AdminClose l p) st word = on_link (Closes p) l st word
+station_does (event.Timeout l p) st word = on_link (TimesOut p) l st word
+station_does (event.Bytes l octets) st word = on_link (Takes octets.now) l st word
+station_does event.Reset st word = record { station = station_anew st; out = record { entries = []; used = 0 } }
 
 -- the event is of one of that many links
 abbrev pub IsOfLink : ℕ → ℕ → Type 0
@@ -90,7 +105,14 @@ abbrev pub held_in : List Link → ℕ
 held_in [] = 0
 held_in (k ∷ ks) = length k.deframer.standing.plain + held_in ks
 
--- the links of a station as it begins by an end's settings
-pub record BeginsBy (s : EndSettings) (links : List Link) : Type 0 where
-  pub ready : AllByRecursion IsReady links
-  pub settings : settings_in links ≡ all_settings s.links 1 s
+-- a station as it begins
+pub record IsBegun (st : Station) : Type 0 where
+  pub some : 1 ≤ length st.links
+  pub most : length st.links ≤ MOST_LINKS
+  pub ready : AllByRecursion IsReady st.links
+  pub bundles : st.bundles ≡ bundles_begun (limits_of (length st.links))
+
+-- and by an end's settings
+pub record BeginsBy (s : EndSettings) (st : Station) : Type 0 where
+  pub begun : IsBegun st
+  pub settings : settings_in st.links ≡ all_settings s.links 1 s

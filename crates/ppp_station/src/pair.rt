@@ -4,6 +4,7 @@ ghost use Rattle.std.specs.Prelude.{IsTrue};
 ghost use Rattle.ppp_station.specs.Station.{IsOfLinks};
 
 use crate::{Station, StationEntry, StationEvent, StationOut};
+use ppp_bundle::MOST_BUNDLES;
 use ppp_conf::{EndConfig, read_config};
 use ppp_frame::{Deframer, Form, FrameBuf, encode};
 use ppp_packet::Proto;
@@ -45,6 +46,8 @@ pub(crate) enum Step<'a> {
     Settle,
     /// Writes the states of LCP and of the control protocols on a link, of both ends.
     States(u8),
+    /// Writes the control links of the bundles of both ends.
+    Controls,
     /// Writes how many links a has, how many octets its last event used, and how many it holds of unfinished frames.
     Counts,
 }
@@ -269,6 +272,27 @@ pub(crate) fn write_states(station: &Station, link: u8, text: &mut String) -> Re
     Ok(())
 }
 
+/// Writes the control link of each bundle of a station.
+pub(crate) fn write_controls(station: &Station, text: &mut String) -> Result<(), Fail> {
+    for bundle in 0..MOST_BUNDLES {
+        if let Some(link) = control_in(station, bundle) {
+            write!(text, "{bundle} by {link} ")?;
+        }
+    }
+    text.push_str("; ")?;
+    Ok(())
+}
+
+/// The control link of a bundle of a station, which has 8.
+fn control_in(station: &Station, bundle: u8) -> Option<u8> {
+    let bundles = station.bundles();
+    if bundle < bundles.limits().bundles {
+        bundles.control(bundle)
+    } else {
+        None
+    }
+}
+
 /// A frame comes on a link of an end.
 pub(crate) fn hear_frame(
     alloc: Global,
@@ -316,6 +340,10 @@ pub(crate) fn do_step(alloc: Global, pair: &mut Pair, step: Step<'_>) -> Result<
         Step::States(link) => {
             write_states(&pair.a.station, link, text)?;
             write_states(&pair.b.station, link, text)
+        }
+        Step::Controls => {
+            write_controls(&pair.a.station, text)?;
+            write_controls(&pair.b.station, text)
         }
         Step::Counts => {
             let (links, used, held) = (

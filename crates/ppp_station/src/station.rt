@@ -1,21 +1,24 @@
 //! A station.
 
 ghost use Rattle.std.specs.Prelude.{◌≡◌, ◌+◌, ◌*◌, ◌-◌, ◌≤◌, ◌++◌, ◌∷◌, [], length, map, IfOk, OnOk, Some, slice_get};
-ghost use Rattle.std.specs.List.{AllByRecursion};
 ghost use Rattle.ppp_conf.specs.EndConfig.{end_seen};
 ghost use Rattle.ppp_link.specs.LinkSettings.{settings_of};
 ghost use Rattle.ppp_link.specs.LinkTables.{tables_seen};
-ghost use Rattle.ppp_station.specs.Station.{all_settings, held_in, link_ready, on_link, opens_all, settings_in, station_does, IsOfLink, IsOfLinks, IsReady, IsUsedOf};
+ghost use Rattle.std.specs.List.{AllByRecursion};
+ghost use Rattle.ppp_station.specs.Moves.{AreLinked};
+ghost use Rattle.ppp_station.specs.Station.{all_settings, held_in, limits_of, link_ready, on_link, opens_all, settings_in, station_anew, station_does, IsBegun, IsOfLink, IsOfLinks, IsReady, IsUsedOf};
 ghost use Rattle.ppp_station.specs.StationOut.{all_octets, AreShort};
 ghost use Rattle.ppp_station.specs.Steps.{happening_seen, IsUsed};
 ghost use Rattle.ppp_link.specs.declared.link.TheConstants.{MOST_FRAME};
-ghost use Rattle.ppp_station.specs.declared.station.TheConstants.{CONTROLS, MOST_LINKS};
+ghost use Rattle.ppp_bundle.specs.declared.limits.TheConstants.{MOST_LINKS};
+ghost use Rattle.ppp_station.specs.declared.station.TheConstants.{CONTROLS};
 ghost use Rattle.ppp_station.specs.declared.station_out.TheConstants.{MOST_ENTRIES, MOST_OCTETS};
 
 use crate::happening::{Happening, happen};
 use crate::station_event::StationEvent;
 use crate::station_out::StationOut;
 use crate::steps::work;
+use ppp_bundle::{BundleTable, Limits, MOST_BUNDLES, MOST_LINKS, MOST_PEERS};
 use ppp_conf::EndConfig;
 use ppp_link::{Link, LinkOut};
 use ppp_memory::Memory;
@@ -23,59 +26,60 @@ use ppp_packet::Proto;
 use std::alloc::Global;
 use std::marker::Model;
 
-/// The most links.
-pub const MOST_LINKS: u8 = 16;
-
 /// The control protocols above LCP, in order.
 const CONTROLS: [Proto; 5] = [Proto::Ip, Proto::Ipv6, Proto::Osi, Proto::Mpls, Proto::Bacp];
 
-/// One whole end. It is seen as the list of its links.
+/// One whole end.
 #[derive(Drop)]
 pub struct Station {
     links: Vec<Link>,
+    bundles: BundleTable,
     told: LinkOut,
     nets: LinkOut,
 }
 
 impl Model for Station {
-    ghost use Rattle.std.specs.Prelude.{List, length, ◌≤◌};
-    ghost use Rattle.ppp_link.specs.Link.{Link};
-    ghost use Rattle.ppp_station.specs.declared.station.TheConstants.{MOST_LINKS};
+    ghost use Rattle.ppp_station.specs.Phases.{IsStation};
+    ghost use Rattle.ppp_station.specs.Station as spec;
 
-    ghost Value = { List Link };
+    ghost Value = { spec.Station };
 
-    ghost view = { λ s. s.links.items };
+    ghost view = { λ s. record { links = s.links.items; bundles = s.bundles } };
 
-    ghost invariant = { λ s. length s.links.items ≤ MOST_LINKS };
+    ghost invariant = { λ s. IsStation (record { links = s.links.items; bundles = s.bundles }) };
 }
 
 impl Station {
     /// A station of these settings. Every control protocol that is configured above LCP is to be opened, so it is in
-    /// Starting; LCP is in Initial. It takes the memory for all that it holds later.
+    /// Starting; LCP is in Initial, no link is joined, and no peer is remembered. It takes the memory for all that it holds
+    /// later.
     pub fn new(alloc: Global, config: &EndConfig) -> Result<Station, Memory>
-        ensures ready { IfOk result (λ s. AllByRecursion IsReady s) }
-        ensures settings { IfOk result (λ s. settings_in s ≡ all_settings config.now.links 1 (end_seen config.now)) }
+        ensures begun { IfOk result (λ s. IsBegun s) }
+        ensures settings { IfOk result (λ s. settings_in s.links ≡ all_settings config.now.links 1 (end_seen config.now)) }
     {
         let mut told = LinkOut::new(alloc)?;
+        let links = ready_links(alloc, config, &mut told)?;
+        let bundles = BundleTable::new(alloc, limits_of(config.links))?;
         let nets = LinkOut::new(alloc)?;
-        let mut links = Vec::new(alloc);
-        for i in 0..config.links {
-            let link = ready_link(alloc, config, i + 1, &mut told)?;
-            put(&mut links, link)?;
-        }
-        Ok(Station { links, told, nets })
+        Ok(Station {
+            links,
+            bundles,
+            told,
+            nets,
+        })
     }
 
     /// Does an event, whose link is one of the station's, and puts what it sends and tells into `out`. A word is what a
     /// table draws from where a new list is asked for. It takes no memory.
     pub fn event(&mut self, ev: StationEvent<'_>, word: u64, out: &mut StationOut)
-        requires { IsOfLinks ev (length self.old) }
-        ensures links { self.new ≡ (station_does ev.entry self.old word).links }
+        requires { IsOfLinks ev (length self.old.links) }
+        ensures station { self.new ≡ (station_does ev.entry self.old word).station }
         ensures out { out.new ≡ (station_does ev.entry self.old word).out }
         ensures short { AreShort out.new.entries }
         ensures used { IsUsedOf ev.entry out.new.used }
         ensures few { length out.new.entries ≤ MOST_ENTRIES }
         ensures room { all_octets out.new.entries ≤ MOST_OCTETS }
+        ensures linked { AreLinked (length self.new.links) out.new.entries }
     {
         match ev {
             StationEvent::Up(link) => self.happens(link, Happening::LineUp, word, out),
@@ -101,7 +105,7 @@ impl Station {
 
     /// How many links there are.
     pub fn links(&self) -> u8
-        ensures count { result ≡ length self.now }
+        ensures count { result ≡ length self.now.links }
         ensures most { result ≤ MOST_LINKS }
     {
         self.links.len() as u8
@@ -109,16 +113,23 @@ impl Station {
 
     /// The link of that number, from 1 on.
     pub fn link(&self, link: u8) -> &Link
-        requires { IsOfLink (length self.now) link }
-        ensures { slice_get self.now (link - 1) ≡ Some result.now }
+        requires { IsOfLink (length self.now.links) link }
+        ensures { slice_get self.now.links (link - 1) ≡ Some result.now }
     {
         &self.links[usize::from(link) - 1]
     }
 
+    /// Its bundles: which links are joined in which (RFC 1990).
+    pub fn bundles(&self) -> &BundleTable
+        ensures { result.now ≡ self.now.bundles }
+    {
+        &self.bundles
+    }
+
     /// The octets that are kept of unfinished frames, escapes undone.
     pub fn held(&self) -> usize
-        ensures value { result ≡ held_in self.now }
-        ensures limit { result ≤ length self.now * MOST_FRAME }
+        ensures value { result ≡ held_in self.now.links }
+        ensures limit { result ≤ length self.now.links * MOST_FRAME }
     {
         let mut held = 0;
         for i in 0..self.links.len() {
@@ -129,30 +140,72 @@ impl Station {
 
     /// Something happens to a link, and what follows from it.
     fn happens(&mut self, number: u8, what: Happening<'_>, word: u64, out: &mut StationOut)
-        requires { IsOfLink (length self.old) number }
-        ensures links { self.new ≡ (on_link (happening_seen what.entry) number self.old word).links }
+        requires { IsOfLink (length self.old.links) number }
+        ensures station { self.new ≡ (on_link (happening_seen what.entry) number self.old word).station }
         ensures out { out.new ≡ (on_link (happening_seen what.entry) number self.old word).out }
         ensures short { AreShort out.new.entries }
         ensures used { IsUsed (happening_seen what.entry) out.new.used }
         ensures few { length out.new.entries ≤ MOST_ENTRIES }
         ensures room { all_octets out.new.entries ≤ MOST_OCTETS }
+        ensures linked { AreLinked (length self.new.links) out.new.entries }
     {
         out.clear();
         let link = &mut self.links[usize::from(number) - 1];
         let used = happen(link, what, word, &mut self.told);
-        work(link, number, word, &self.told, &mut self.nets, out);
+        work(
+            &mut self.links,
+            &mut self.bundles,
+            number,
+            word,
+            &self.told,
+            &mut self.nets,
+            out,
+        );
         out.set_used(used);
     }
 
     /// Is as a new station.
     fn reset(&mut self)
-        ensures { self.new ≡ map (λ k. link_ready k.tables) self.old }
+        ensures { self.new ≡ station_anew self.old }
     {
-        for i in 0..self.links.len() {
-            let link = &mut self.links[i];
-            link.reset();
-            open_all(link, &CONTROLS, &mut self.told);
-        }
+        reset_links(&mut self.links, &mut self.told);
+        self.bundles.reset();
+    }
+}
+
+/// The links of an end of these settings, as a station begins with them.
+fn ready_links(alloc: Global, config: &EndConfig, told: &mut LinkOut) -> Result<Vec<Link>, Memory>
+    ensures count { IfOk result (λ ks. length ks.items ≡ config.now.links) }
+    ensures ready { IfOk result (λ ks. AllByRecursion IsReady ks.items) }
+    ensures settings { IfOk result (λ ks. settings_in ks.items ≡ all_settings config.now.links 1 (end_seen config.now)) }
+{
+    let mut links = Vec::new(alloc);
+    for i in 0..config.links {
+        let link = ready_link(alloc, config, i + 1, told)?;
+        put(&mut links, link)?;
+    }
+    Ok(links)
+}
+
+/// Each link is as a station begins with it.
+fn reset_links(links: &mut Vec<Link>, told: &mut LinkOut)
+    ensures { links.new.items ≡ map (λ k. link_ready k.tables) links.old.items }
+{
+    for i in 0..links.len() {
+        let link = &mut links[i];
+        link.reset();
+        open_all(link, &CONTROLS, told);
+    }
+}
+
+/// How much the bundles of so many links hold: 8 bundles, and 256 peers that are remembered.
+fn limits_of(links: u8) -> Limits
+    ensures { result ≡ limits_of links }
+{
+    Limits {
+        links,
+        bundles: MOST_BUNDLES,
+        peers: MOST_PEERS,
     }
 }
 

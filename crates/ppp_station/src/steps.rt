@@ -1,89 +1,216 @@
-//! What a station does on one link, entry by entry (RFC 1661 section 3).
+//! What a station does for the entries of a link's step, one after the other (RFC 1661 section 3).
 
-ghost use Rattle.std.specs.Prelude.{◌≡◌, ◌+◌, ◌*◌, ◌<◌, ◌≤◌, false, ◌++◌, length};
+ghost use Rattle.std.specs.Prelude.{◌≡◌, ◌+◌, ◌*◌, ◌-◌, ◌<◌, ◌≤◌, ◌∷◌, [], false, ◌||◌, ◌++◌, length, ℕ, option_map, Some, None, slice_get, replicate};
+ghost use Rattle.std.specs.Option.{unwrap_or, IfSome};
+ghost use Rattle.ppp_bundle.specs.BundleTable.{IsLinkOf};
+ghost use Rattle.ppp_bundle.specs.Bundles.{Bundles, bundle_at, control_of};
+ghost use Rattle.ppp_bundle.specs.JoinKey.{key_seen, terms_seen};
+ghost use Rattle.ppp_bundle.specs.declared.limits.TheConstants.{MOST_BUNDLES};
 ghost use Rattle.ppp_link.specs.Automata.{auto_at};
-ghost use Rattle.ppp_link.specs.LinkOut.{entry_seen as told_seen, IsShort};
+ghost use Rattle.ppp_link.specs.LinkOut.{entry_seen as told_seen, IsShort, LcpUp};
 ghost use Rattle.ppp_link.specs.declared.link.TheConstants.{MOST_AFTER_FRAME, MOST_AFTER_RUN};
+ghost use Rattle.ppp_station.specs.Control.{goes, key_in, moves, terms_in};
+ghost use Rattle.ppp_station.specs.Station.{limits_of, IsOfLink};
 ghost use Rattle.ppp_station.specs.StationOut.{all_octets};
-ghost use Rattle.ppp_station.specs.Steps.{all_plain, is_opened_at, opener_of, plain, runs, so_far, works, works_one};
+ghost use Rattle.ppp_station.specs.Steps.{all_plain, comes_up, control_for, follows, is_opened_at, is_opened_control, is_opened_on, opener_of, plain, runs, runs_all, so_far, works, works_one, InTurn};
 ghost use Rattle.ppp_link.specs.declared.link_out.TheConstants.{MOST_PUSH};
 ghost use Rattle.ppp_station.specs.declared.station_out.TheConstants.{MOST_ENTRIES, MOST_OCTETS};
 ghost use Rattle.ppp_station.specs.declared.steps.TheConstants.{MOST_CAUSED};
 
 use crate::station_out::StationOut;
 use ppp_auto::AutoState;
+use ppp_bundle::{BundleTable, Join, JoinKey, MOST_BUNDLES};
+use ppp_lcp::{LcpGrant, grant_of};
 use ppp_link::{Link, LinkEntry, LinkOut};
-use ppp_packet::Proto;
+use ppp_packet::{OptList, Proto};
 
-/// The most octets that one entry of a link causes: those of the frames that the control protocols send together.
+/// The most octets that one entry of a link causes: those of the frames that the control protocols of a link send together.
 pub(crate) const MOST_CAUSED: usize = 60_280;
 
-/// Works off the entries of a link, in order.
+/// Works off the entries of a link's step, in order.
 #[tactic(auto, unfolding(crate::specs::Steps::works))]
 pub(crate) fn work(
-    link: &mut Link,
+    links: &mut Vec<Link>,
+    bundles: &mut BundleTable,
     number: u8,
     word: u64,
     told: &LinkOut,
     nets: &mut LinkOut,
     out: &mut StationOut,
 )
+    requires number { IsOfLink (length links.old.items) number }
+    requires limits { bundles.old.limits ≡ limits_of (length links.old.items) }
+    requires turn { InTurn number bundles.old told.now }
     requires told { length told.now ≤ MOST_AFTER_FRAME }
     requires few { length out.old.entries + MOST_AFTER_FRAME * MOST_AFTER_RUN ≤ MOST_ENTRIES }
     requires room { all_octets out.old.entries + MOST_AFTER_FRAME * MOST_CAUSED ≤ MOST_OCTETS }
-    ensures done { so_far link.new out.new.entries ≡ works number word told.now (so_far link.old out.old.entries) }
+    ensures done { so_far links.new.items bundles.new out.new.entries
+        ≡ works number word told.now (so_far links.old.items bundles.old out.old.entries) }
     ensures used { out.new.used ≡ out.old.used }
     ensures few { length out.new.entries ≤ MOST_ENTRIES }
     ensures octets { all_octets out.new.entries ≤ MOST_OCTETS }
 {
     for i in 0..told.count() {
-        work_one(link, number, word, told.at(i), nets, out);
+        work_one(links, bundles, number, word, told.at(i), nets, out);
     }
 }
 
-/// Works off an entry of a link.
+/// Works off an entry of a link's step.
 #[tactic(auto, unfolding(crate::specs::Steps::works_one))]
 fn work_one(
-    link: &mut Link,
+    links: &mut Vec<Link>,
+    bundles: &mut BundleTable,
     number: u8,
     word: u64,
     entry: LinkEntry<'_>,
     nets: &mut LinkOut,
     out: &mut StationOut,
 )
+    requires number { IsOfLink (length links.old.items) number }
+    requires limits { bundles.old.limits ≡ limits_of (length links.old.items) }
+    requires turn { told_seen entry ≡ LcpUp → bundle_at number bundles.old ≡ None }
     requires short { IsShort (told_seen entry) }
     requires few { length out.old.entries + MOST_AFTER_RUN ≤ MOST_ENTRIES }
     requires room { all_octets out.old.entries + MOST_CAUSED ≤ MOST_OCTETS }
-    ensures done { so_far link.new out.new.entries ≡ works_one number word (told_seen entry.entry) (so_far link.old out.old.entries) }
+    ensures done { so_far links.new.items bundles.new out.new.entries
+        ≡ works_one number word (told_seen entry.entry) (so_far links.old.items bundles.old out.old.entries) }
+    ensures links { length links.new.items ≡ length links.old.items }
+    ensures limits { bundles.new.limits ≡ bundles.old.limits }
     ensures used { out.new.used ≡ out.old.used }
     ensures few { length out.new.entries ≤ length out.old.entries + MOST_AFTER_RUN }
     ensures octets { all_octets out.new.entries ≤ all_octets out.old.entries + MOST_CAUSED }
 {
     match entry {
         LinkEntry::Push(octets) => out.push(number, octets),
-        LinkEntry::LcpUp => run(link, number, true, word, nets, out),
-        LinkEntry::LcpDown => run(link, number, false, word, nets, out),
+        LinkEntry::LcpUp => come_up(links, bundles, number, word, nets, out),
+        LinkEntry::LcpDown => go_down(links, bundles, number, word, nets, out),
         LinkEntry::Finished => out.hang(number),
         LinkEntry::NetUp(_) | LinkEntry::NetDown(_) => {}
         LinkEntry::Payload { protocol, octets } => {
-            if is_opened_for(link, protocol) {
+            if is_opened_for(links.as_slice(), bundles, number, protocol) {
                 out.hand_up(protocol, octets);
             }
         }
     }
 }
 
-/// The control protocols above LCP go Up or Down.
-#[tactic(auto, unfolding(crate::specs::Steps::runs))]
-fn run(link: &mut Link, number: u8, on: bool, word: u64, nets: &mut LinkOut, out: &mut StationOut)
+/// LCP came to be Opened on a link: it joins a bundle, or it is single.
+fn come_up(
+    links: &mut Vec<Link>,
+    bundles: &mut BundleTable,
+    number: u8,
+    word: u64,
+    nets: &mut LinkOut,
+    out: &mut StationOut,
+)
+    requires number { IsOfLink (length links.old.items) number }
+    requires limits { bundles.old.limits ≡ limits_of (length links.old.items) }
+    requires single { bundle_at number bundles.old ≡ None }
     requires few { length out.old.entries + MOST_AFTER_RUN ≤ MOST_ENTRIES }
     requires room { all_octets out.old.entries + MOST_CAUSED ≤ MOST_OCTETS }
-    ensures done { so_far link.new out.new.entries ≡ runs on number word (so_far link.old out.old.entries) }
+    ensures done { so_far links.new.items bundles.new out.new.entries
+        ≡ works_one number word LcpUp (so_far links.old.items bundles.old out.old.entries) }
+    ensures links { length links.new.items ≡ length links.old.items }
+    ensures limits { bundles.new.limits ≡ bundles.old.limits }
     ensures used { out.new.used ≡ out.old.used }
     ensures few { length out.new.entries ≤ length out.old.entries + MOST_AFTER_RUN }
     ensures octets { all_octets out.new.entries ≤ all_octets out.old.entries + MOST_CAUSED }
 {
-    link.run_ncps(on, false, word, nets);
+    let key = key_of(&links[usize::from(number) - 1]);
+    let before = controls_of(bundles);
+    match bundles.join(number, &key) {
+        Join::First(bundle) | Join::Added(bundle) => {
+            let old = before[usize::from(bundle)];
+            move_control(links, old, bundles.control(bundle), word, nets, out);
+        }
+        Join::Single(_) => run(links, number, true, false, word, nets, out),
+    }
+}
+
+/// LCP left Opened: control protocols go Down on the link, then it leaves its bundle, and the control link is chosen anew.
+fn go_down(
+    links: &mut Vec<Link>,
+    bundles: &mut BundleTable,
+    number: u8,
+    word: u64,
+    nets: &mut LinkOut,
+    out: &mut StationOut,
+)
+    requires number { IsOfLink (length links.old.items) number }
+    requires limits { bundles.old.limits ≡ limits_of (length links.old.items) }
+    requires few { length out.old.entries + MOST_AFTER_RUN ≤ MOST_ENTRIES }
+    requires room { all_octets out.old.entries + MOST_CAUSED ≤ MOST_OCTETS }
+    ensures done { so_far links.new.items bundles.new out.new.entries
+        ≡ follows word (goes number bundles.old) (so_far links.old.items bundles.old out.old.entries) }
+    ensures links { length links.new.items ≡ length links.old.items }
+    ensures limits { bundles.new.limits ≡ bundles.old.limits }
+    ensures used { out.new.used ≡ out.old.used }
+    ensures few { length out.new.entries ≤ length out.old.entries + MOST_AFTER_RUN }
+    ensures octets { all_octets out.new.entries ≤ all_octets out.old.entries + MOST_CAUSED }
+{
+    let Some(bundle) = bundles.bundle_of(number) else {
+        run(links, number, false, false, word, nets, out);
+        return;
+    };
+    run(links, number, false, true, word, nets, out);
+    let old = bundles.control(bundle);
+    bundles.leave(number);
+    move_control(links, old, bundles.control(bundle), word, nets, out);
+}
+
+/// The control link changes, or not: control protocols go Down on the old one before they go Up on the new one.
+fn move_control(
+    links: &mut Vec<Link>,
+    old: Option<u8>,
+    new: Option<u8>,
+    word: u64,
+    nets: &mut LinkOut,
+    out: &mut StationOut,
+)
+    requires old { IfSome old (λ l. IsOfLink (length links.old.items) l) }
+    requires new { IfSome new (λ l. IsOfLink (length links.old.items) l) }
+    requires few { length out.old.entries + MOST_AFTER_RUN ≤ MOST_ENTRIES }
+    requires room { all_octets out.old.entries + MOST_CAUSED ≤ MOST_OCTETS }
+    ensures done { (b : Bundles) → so_far links.new.items b out.new.entries
+        ≡ runs_all word (moves old new) (so_far links.old.items b out.old.entries) }
+    ensures links { length links.new.items ≡ length links.old.items }
+    ensures used { out.new.used ≡ out.old.used }
+    ensures few { length out.new.entries ≤ length out.old.entries + MOST_AFTER_RUN }
+    ensures octets { all_octets out.new.entries ≤ all_octets out.old.entries + MOST_CAUSED }
+{
+    if old == new {
+        return;
+    }
+    if let Some(link) = old {
+        run(links, link, false, true, word, nets, out);
+    }
+    if let Some(link) = new {
+        run(links, link, true, true, word, nets, out);
+    }
+}
+
+/// The control protocols above LCP go Up or Down on a link, and BACP with them where that is said. Down sends nothing.
+fn run(
+    links: &mut Vec<Link>,
+    number: u8,
+    on: bool,
+    bacp: bool,
+    word: u64,
+    nets: &mut LinkOut,
+    out: &mut StationOut,
+)
+    requires number { IsOfLink (length links.old.items) number }
+    requires few { length out.old.entries + MOST_AFTER_RUN ≤ MOST_ENTRIES }
+    requires room { all_octets out.old.entries + MOST_CAUSED ≤ MOST_OCTETS }
+    ensures done { (b : Bundles) → so_far links.new.items b out.new.entries
+        ≡ runs word (record { link = number; on = on; bacp = bacp }) (so_far links.old.items b out.old.entries) }
+    ensures links { length links.new.items ≡ length links.old.items }
+    ensures used { out.new.used ≡ out.old.used }
+    ensures quiet { on ≡ false → out.new.entries ≡ out.old.entries }
+    ensures few { length out.new.entries ≤ length out.old.entries + MOST_AFTER_RUN }
+    ensures octets { all_octets out.new.entries ≤ all_octets out.old.entries + MOST_CAUSED }
+{
+    links[usize::from(number) - 1].run_ncps(on, bacp, word, nets);
     push_all(number, nets, out);
 }
 
@@ -117,13 +244,75 @@ fn push_one(number: u8, entry: LinkEntry<'_>, out: &mut StationOut)
     }
 }
 
-/// Whether the network control protocol is Opened that datagrams of that protocol want.
-fn is_opened_for(link: &Link, protocol: u16) -> bool
-    ensures { result ≡ is_opened_at link.now (opener_of protocol) }
+/// What LCP's two lists grant on a link; nothing where it has none.
+fn key_of(link: &Link) -> JoinKey
+    ensures { key_seen result ≡ key_in link.now.automata.lcp }
 {
-    match opener_of(protocol) {
-        Some(proto) => link.state(proto) == Some(AutoState::Opened),
+    JoinKey {
+        mine: grant_in(link.mine(Proto::Lcp)),
+        peer: grant_in(link.peer(Proto::Lcp)),
+    }
+}
+
+/// What a list grants, if there is one.
+fn grant_in(list: Option<&OptList>) -> LcpGrant
+    ensures { terms_seen result ≡ terms_in (unwrap_or (option_map (λ list. list.now) list.entry) []) }
+{
+    match list {
+        Some(list) => grant_of(list),
+        None => grant_of(&OptList::new()),
+    }
+}
+
+/// The control links of all bundles.
+fn controls_of(bundles: &BundleTable) -> [Option<u8>; MOST_BUNDLES as usize]
+    requires { bundles.now.limits.bundles ≡ MOST_BUNDLES }
+    ensures value { (i : ℕ) → i < MOST_BUNDLES → slice_get result i ≡ Some (control_of i bundles.now) }
+    ensures within { (i : ℕ) → i < MOST_BUNDLES → IfSome (control_of i bundles.now) (IsLinkOf bundles.now) }
+{
+    let mut controls = [None; MOST_BUNDLES as usize];
+    for i in 0..MOST_BUNDLES {
+        controls[usize::from(i)] = bundles.control(i);
+    }
+    controls
+}
+
+/// Whether the network control protocol is Opened that datagrams of that protocol want: on the link that they came on, or on
+/// its bundle's control link.
+fn is_opened_for(links: &[Link], bundles: &BundleTable, number: u8, protocol: u16) -> bool
+    requires number { IsOfLink (length links.now) number }
+    requires limits { bundles.now.limits ≡ limits_of (length links.now) }
+    ensures { result ≡ (is_opened_on links.now number (opener_of protocol)
+        || is_opened_control links.now (control_for number bundles.now) (opener_of protocol)) }
+{
+    let Some(proto) = opener_of(protocol) else {
+        return false;
+    };
+    if is_opened_at(&links[usize::from(number) - 1], proto) {
+        return true;
+    }
+    match control_for(bundles, number) {
+        Some(control) => is_opened_at(&links[usize::from(control) - 1], proto),
         None => false,
+    }
+}
+
+/// Whether a protocol is Opened on a link.
+fn is_opened_at(link: &Link, proto: Proto) -> bool
+    ensures { result ≡ is_opened_at (Some link.now) (Some proto) }
+{
+    link.state(proto) == Some(AutoState::Opened)
+}
+
+/// The control link of a link's bundle, if it is in one.
+fn control_for(bundles: &BundleTable, number: u8) -> Option<u8>
+    requires { IsLinkOf bundles.now number }
+    ensures value { result ≡ control_for number bundles.now }
+    ensures within { IfSome result (λ l. IsLinkOf bundles.now l) }
+{
+    match bundles.bundle_of(number) {
+        Some(bundle) => bundles.control(bundle),
+        None => None,
     }
 }
 

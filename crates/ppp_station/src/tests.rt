@@ -57,7 +57,7 @@ fn each_protocol_opens(rt: HostRuntime) -> Result<(), Fail> {
         &[(
             &[Step::States(1), Step::States(2)],
             "Initial Starting Starting Starting Starting Starting ; Initial Starting Starting Starting Starting Starting ; \
-            Opened Opened Opened Opened Opened Starting ; Opened Opened Opened Opened Opened Starting ; ",
+            Opened Opened Opened Opened Opened Opened ; Opened Opened Opened Opened Opened Opened ; ",
         )],
     )
 }
@@ -185,6 +185,114 @@ fn goes_through_its_phases(rt: HostRuntime) -> Result<(), Fail> {
                 "links 2 used 4 held 2; links 2 used 0 held 0; Initial Starting - - - - ; Opened Opened - - - - ; ",
             ),
         ],
+    )
+}
+
+/// Both links open, the second first; b's discriminator is greater, so a is the senior end.
+const BOTH_OPEN: &[Step<'static>] = &[
+    Step::A(AdminOpen(1, Proto::Lcp)),
+    Step::B(AdminOpen(1, Proto::Lcp)),
+    Step::A(AdminOpen(2, Proto::Lcp)),
+    Step::B(AdminOpen(2, Proto::Lcp)),
+    Step::A(Up(2)),
+    Step::B(Up(2)),
+    Step::Settle,
+    Step::A(Up(1)),
+    Step::B(Up(1)),
+    Step::Settle,
+];
+
+#[test]
+fn control_protocols_follow_the_control_link(rt: HostRuntime) -> Result<(), Fail> {
+    let datagram = Step::Frame(2, 0x0021, &[0x45, 0]);
+    check(
+        rt.alloc(),
+        &rt,
+        ALL,
+        BOTH_OPEN,
+        &[
+            (
+                &[Step::Controls, Step::States(1), Step::States(2), datagram],
+                "0 by 1 ; 0 by 1 ; Opened Opened Opened Opened Opened Opened ; Opened Opened Opened Opened Opened Opened ; \
+                Opened Starting Starting Starting Starting Starting ; Opened Starting Starting Starting Starting Starting ; got None 0021 4500; ",
+            ),
+            (
+                &[
+                    Step::A(AdminClose(1, Proto::Lcp)),
+                    Step::Settle,
+                    Step::Controls,
+                    Step::States(1),
+                    Step::States(2),
+                ],
+                "a hang 1; 0 by 2 ; 0 by 2 ; Closed Starting Starting Starting Starting Starting ; Stopping Starting Starting Starting Starting Starting ; \
+                Opened Opened Opened Opened Opened Opened ; Opened Opened Opened Opened Opened Opened ; ",
+            ),
+            // a control protocol's packet that comes on another link than the control link is discarded
+            (
+                &[
+                    Step::Frame(2, 0x8021, &[1, 1, 0, 4]),
+                    Step::Frame(2, 0xc02b, &[1, 1, 0, 4]),
+                    Step::States(1),
+                ],
+                "Opened Opened Opened Opened Opened Opened ; Opened Opened Opened Opened Opened Opened ; ",
+            ),
+            // fragments are discarded until reassembly is built
+            (
+                &[Step::Frame(1, 0x003d, &[0xc0, 0, 0, 0, 0, 0x21, 0x45])],
+                "",
+            ),
+        ],
+    )
+}
+
+/// The peer of end b, whose discriminator is lesser, so that it is the senior end; its numbers descend where b's ascend.
+const DESCENDING: &[Step<'static>] = &[
+    Step::A(AdminOpen(1, Proto::Lcp)),
+    Step::A(AdminOpen(2, Proto::Lcp)),
+    Step::A(Up(1)),
+    Step::A(Up(2)),
+    Step::Frame(
+        1,
+        0xc021,
+        &[
+            1, 1, 0, 22, 5, 6, 0, 0, 0, 9, 17, 4, 5, 0xdc, 19, 4, 1, 0x60, 23, 4, 0, 21,
+        ],
+    ),
+    Step::Frame(
+        1,
+        0xc021,
+        &[
+            2, 1, 0, 22, 5, 6, 0, 0, 0, 4, 17, 4, 5, 0xdc, 19, 4, 1, 0x61, 23, 4, 0, 10,
+        ],
+    ),
+    Step::Frame(
+        2,
+        0xc021,
+        &[
+            1, 1, 0, 22, 5, 6, 0, 0, 0, 9, 17, 4, 5, 0xdc, 19, 4, 1, 0x60, 23, 4, 0, 20,
+        ],
+    ),
+    Step::Frame(
+        2,
+        0xc021,
+        &[
+            2, 1, 0, 22, 5, 6, 0, 0, 0, 4, 17, 4, 5, 0xdc, 19, 4, 1, 0x61, 23, 4, 0, 11,
+        ],
+    ),
+];
+
+#[test]
+fn senior_end_is_the_lesser_discriminator(rt: HostRuntime) -> Result<(), Fail> {
+    check(
+        rt.alloc(),
+        &rt,
+        ALL,
+        DESCENDING,
+        &[(
+            &[Step::Controls, Step::States(1), Step::States(2)],
+            "0 by 2 ; ; Opened Starting Starting Starting Starting Starting ; Initial Starting Starting Starting Starting Starting ; \
+            Opened Req-Sent Req-Sent Req-Sent Req-Sent Req-Sent ; Initial Starting Starting Starting Starting Starting ; ",
+        )],
     )
 }
 

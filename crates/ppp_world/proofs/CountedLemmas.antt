@@ -15,6 +15,11 @@ on_ok : {E : Type 0} (r : Result (Unit {0}) E) (P Q : Type 0) → OnOk r P → (
 on_ok (Ok done) P Q p to = to p
 on_ok (Err why) P Q p to = tt
 
+-- what is so in any case
+pub ok-always : {E : Type 0} (r : Result (Unit {0}) E) (P : Type 0) → P → OnOk r P
+ok-always (Ok done) P p = p
+ok-always (Err why) P p = tt
+
 -- what is counted of an event is less than of a step
 pub own-counted : {E : Type 0} (r : Result (Unit {0}) E) (n more : ℕ) (p : Party) → more ≤ most_a_step → OnOk r (AreCounted (n + more) p) → OnOk r (AreCounted (n + most_a_step) p)
 own-counted r n more p less counted = on_ok r (AreCounted (n + more) p) (AreCounted (n + most_a_step) p) counted (counted-above (n + more) (n + most_a_step) p (omega (arith, less)))
@@ -40,11 +45,11 @@ pub anew-counted : {E : Type 0} (r : Result (Unit {0}) E) (n : ℕ) (p : Party) 
 anew-counted r n p counted = on_ok r (AreCounted 0 p) (AreCounted (n + most_a_step) p) counted (counted-above 0 (n + most_a_step) p (omega arith))
 
 -- what a delivery sends is short, where there is a frame
-pub taken-are-short : (l word : ℕ) (p : Party) → ((f : Frame) (rest : List Frame) → slice_get p.incoming (l - 1) ≡ Some (f ∷ rest) → AreShort (on_link (Takes f.octets) l p.links word).out.entries) →
-    AreShort (taken_entries l p.links word (slice_get p.incoming (l - 1)))
+pub taken-are-short : (l word : ℕ) (p : Party) → ((f : Frame) (rest : List Frame) → slice_get p.incoming (l - 1) ≡ Some (f ∷ rest) → AreShort (on_link (Takes f.octets) l p.station word).out.entries) →
+    AreShort (taken_entries l p.station word (slice_get p.incoming (l - 1)))
 taken-are-short l word p short = by_queue (slice_get p.incoming (l - 1)) refl
   where
-    by_queue : (o : Option (List Frame)) → slice_get p.incoming (l - 1) ≡ o → AreShort (taken_entries l p.links word o)
+    by_queue : (o : Option (List Frame)) → slice_get p.incoming (l - 1) ≡ o → AreShort (taken_entries l p.station word o)
     by_queue None is = tt
     by_queue (Some []) is = tt
     by_queue (Some (f ∷ rest)) is = short f rest is

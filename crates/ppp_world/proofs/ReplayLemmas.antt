@@ -5,9 +5,8 @@ use Rattle.std.proofs.lemmas.List.Elements.{All-nil}
 use Rattle.std.proofs.lemmas.List.Sums.{sum_by-cons}
 use Rattle.ppp_conf.specs.Config.{Settings as Config}
 use Rattle.ppp_conf.specs.EndConfig.{EndSettings}
-use Rattle.ppp_station.proofs.OneStationLemmas.{same_links}
-use Rattle.ppp_station.specs.Station.{BeginsBy}
-use Rattle.ppp_link.specs.Link.{Link}
+use Rattle.ppp_station.proofs.OneStationLemmas.{same_stations}
+use Rattle.ppp_station.specs.Station.{BeginsBy, Station}
 use Rattle.ppp_script.specs.Event.{steps_in, steps_in_all}
 use Rattle.ppp_script.specs.declared.script.TheConstants.{MOST_STEPS}
 use Rattle.ppp_script.specs.declared.event.Event.{Event}
@@ -23,7 +22,7 @@ use Rattle.ppp_world.proofs.RunLemmas.{linked_event, linked_run}
 use Rattle.ppp_world.proofs.SoundLemmas.{agree-begun}
 use Rattle.ppp_world.proofs.WorldLemmas.{SoFar, agreed-moments, place_all, world_after_all, run_is, becomes, Becomes, halt_of, halted_moments, IsNextAfter, before_refusal-none}
 
-follows : (own other : List Link) (events : List Event) → Becomes (world_begun own other) (run_of own other events) (world_after_all (world_begun own other) events)
+follows : (own other : Station) (events : List Event) → Becomes (world_begun own other) (run_of own other events) (world_after_all (world_begun own other) events)
 follows own other events =
     rw (run_is events (world_begun own other)) (becomes (run_of own other events) (world_begun own other) refl (linked_run (place_begun own other) events))
 
@@ -31,14 +30,14 @@ halted_all : (w : World) (events : List Event) (fault : WorldFault) → w.halt �
 halted_all w events fault is = run_is events w ∙ halted_moments w (run_from (place_of w) events) fault is
 
 -- what the events that are left come to
-pub record ReplaysOn (own other : List Link) (all : List Event) (now : World) (rest : List Event) : Type 0 where
+pub record ReplaysOn (own other : Station) (all : List Event) (now : World) (rest : List Event) : Type 0 where
   pub same : world_after_all (world_begun own other) all ≡ world_after_all now rest
   pub going : now.halt ≡ None
   pub room : now.steps + steps_in_all rest ≤ MOST_STEPS
   -- that two Opened ends agree in what is left gives that they do in all
   pub agreed : AgreeThroughout (before_refusal (run_from (place_of now) rest)) → AgreeThroughout (before_refusal (run_of own other all))
 
-pub replays_first : (own other : List Link) (all : List Event) → steps_in_all all ≤ MOST_STEPS → ReplaysOn own other all (world_begun own other) all
+pub replays_first : (own other : Station) (all : List Event) → steps_in_all all ≤ MOST_STEPS → ReplaysOn own other all (world_begun own other) all
 replays_first own other all few = record { same = refl; going = refl; room = omega arith; agreed = λ all. all }
 
 going_answer : (o : Option WorldFault) → Ok tt ≡ answer_of o → o ≡ None
@@ -54,11 +53,11 @@ refused_if None fault is p = absurd (cc)
 refused_if (Some Memory) fault is p = absurd (cc)
 refused_if (Some (Outstanding other)) fault is p = p
 
-pub replays_room : (own other : List Link) (all : List Event) (now : World) (rest more : List Event) (event : Event) → rest ≡ event ∷ more → ReplaysOn own other all now rest → now.steps + steps_in event ≤ MOST_STEPS
+pub replays_room : (own other : Station) (all : List Event) (now : World) (rest more : List Event) (event : Event) → rest ≡ event ∷ more → ReplaysOn own other all now rest → now.steps + steps_in event ≤ MOST_STEPS
 replays_room own other all now rest more event is far = let room = rw is at far.room in omega (arith, room, sum_by-cons steps_in event more)
 
 -- what an event gives, given what it was given before
-agreed_so_far : (own other : List Link) (all : List Event) (now next : World) (rest more : List Event) (event : Event) → rest ≡ event ∷ more →
+agreed_so_far : (own other : Station) (all : List Event) (now next : World) (rest more : List Event) (event : Event) → rest ≡ event ∷ more →
     UnlessMemory next.halt (next ≡ world_after now event) → (now.halt ≡ None → UnlessMemory next.halt (AgreeThroughout (before_refusal (moments_of event (place_of now))))) →
     ReplaysOn own other all now rest → SoFar next.halt (AgreeThroughout (before_refusal (run_from (place_of next) more))) (AgreeThroughout (before_refusal (run_of own other all)))
 agreed_so_far own other all now next rest more event is done agreed far =
@@ -77,7 +76,7 @@ agreed_so_far own other all now next rest more event is done agreed far =
     at_next (Some Memory) on did far = tt
     at_next (Some (Outstanding why)) on did far = far
 
-pub replays_next : (own other : List Link) (all : List Event) (now next : World) (rest more : List Event) (event : Event) (answer : Result (Unit {0}) WorldFault) → rest ≡ event ∷ more →
+pub replays_next : (own other : Station) (all : List Event) (now next : World) (rest more : List Event) (event : Event) (answer : Result (Unit {0}) WorldFault) → rest ≡ event ∷ more →
     answer ≡ answer_of next.halt → answer ≡ Ok tt → UnlessMemory next.halt (next ≡ world_after now event) → next.steps ≤ now.steps + steps_in event →
     (now.halt ≡ None → UnlessMemory next.halt (AgreeThroughout (before_refusal (moments_of event (place_of now))))) →
     ReplaysOn own other all now rest → ReplaysOn own other all next more
@@ -100,7 +99,7 @@ no_refusal : (o : Option Refusal) → None ≡ halt_of o → o ≡ None
 no_refusal None is = refl
 no_refusal (Some refused) is = absurd (cc)
 
-pub replays_all : (own other : List Link) (all : List Event) (now : World) → ReplaysOn own other all now [] →
+pub replays_all : (own other : Station) (all : List Event) (now : World) → ReplaysOn own other all now [] →
     (now.report ≡ report (before_refusal (run_of own other all))) × (None ≡ refusal (run_of own other all)) × (now.report ≡ report (run_of own other all))
     × AgreeThroughout (before_refusal (run_of own other all))
 replays_all own other all now far =
@@ -120,7 +119,7 @@ the_refusal (Some r) steps fault is next = same_refusal r.step r.fault next (cc)
     same_refusal : (step : ℕ) (other : Outstanding') → step ≡ steps + 1 → other ≡ fault → refusal_in (steps + 1) (Outstanding fault) ≡ Some (record { step = step; fault = other })
     same_refusal step other same_step same = rw (same_step, same) refl
 
-replays_refused : (own other : List Link) (all : List Event) (now next : World) (rest more : List Event) (event : Event) (fault : Outstanding') → rest ≡ event ∷ more →
+replays_refused : (own other : Station) (all : List Event) (now next : World) (rest more : List Event) (event : Event) (fault : Outstanding') → rest ≡ event ∷ more →
     next.halt ≡ Some (Outstanding fault) → UnlessMemory next.halt (next ≡ world_after now event) → ReplaysOn own other all now rest →
     (next.report ≡ report (before_refusal (run_of own other all))) × (refusal_in (next.steps + 1) (Outstanding fault) ≡ refusal (run_of own other all))
 replays_refused own other all now next rest more event fault is why done far =
@@ -130,7 +129,7 @@ replays_refused own other all now next rest more event fault is why done far =
     (whole.report, the_refusal (refusal (run_of own other all)) next.steps fault (sym why ∙ whole.halt) whole.next)
 
 -- however the world refused, what the replay comes to is right, if it comes to something
-pub replays_stopped : (own other : List Link) (all : List Event) (now next : World) (rest more : List Event) (event : Event) (answer : Result (Unit {0}) WorldFault) (why : WorldFault) (refused : Option Refusal) → rest ≡ event ∷ more →
+pub replays_stopped : (own other : Station) (all : List Event) (now next : World) (rest more : List Event) (event : Event) (answer : Result (Unit {0}) WorldFault) (why : WorldFault) (refused : Option Refusal) → rest ≡ event ∷ more →
     answer ≡ answer_of next.halt → answer ≡ Err why → UnlessMemory next.halt (next ≡ world_after now event) →
     (now.halt ≡ None → UnlessMemory next.halt (AgreeThroughout (before_refusal (moments_of event (place_of now))))) →
     ReplaysOn own other all now rest → refused ≡ refusal_in (next.steps + 1) why → IsSome refused →
@@ -153,17 +152,17 @@ if_ok_all (Err e) p q r all = tt
 
 -- the same, for some stations that begin by the settings
 pub record Replays (c : Config) (all : List Event) (now : World) (rest : List Event) : Type 0 where
-  pub own : List Link
-  pub other : List Link
+  pub own : Station
+  pub other : Station
   pub begin : BothBegin c own other
   pub on : ReplaysOn own other all now rest
 
 pub replays-begun : (c : Config) (all : List Event) (w : World) → IsBegun c w → steps_in_all all ≤ MOST_STEPS → Replays c all w all
 replays-begun c all w begun few = record {
-  own = w.ends.own.links;
-  other = w.ends.other.links;
+  own = w.ends.own.station;
+  other = w.ends.other.station;
   begin = begun.begin;
-  on = subst (λ now. ReplaysOn w.ends.own.links w.ends.other.links all now all) (sym begun.is) (replays_first w.ends.own.links w.ends.other.links all few);
+  on = subst (λ now. ReplaysOn w.ends.own.station w.ends.other.station all now all) (sym begun.is) (replays_first w.ends.own.station w.ends.other.station all few);
 }
 
 pub replays-next : (c : Config) (all : List Event) (now next : World) (rest more : List Event) (event : Event) (answer : Result (Unit {0}) WorldFault) → rest ≡ event ∷ more →
@@ -210,8 +209,8 @@ replays-stopped c all now next rest more event answer why refused octets same is
 
 -- ---- two stations that begin by the same settings are the same
 
-same-begin : (s : EndSettings) (one other : List Link) → BeginsBy s one → BeginsBy s other → one ≡ other
-same-begin s one other first second = same_links one other first.ready second.ready (first.settings ∙ sym second.settings)
+same-begin : (s : EndSettings) (one other : Station) → BeginsBy s one → BeginsBy s other → one ≡ other
+same-begin s one other first second = same_stations one other first.begun second.begun (first.settings ∙ sym second.settings)
 
 pub one-report : (c : Config) (events : List Event) (one other : List ℕ) (r s : Option Refusal) → IsReplay c events one r → IsReplay c events other s → one ≡ other
 one-report c events one other r s first second =

@@ -1,7 +1,6 @@
 -- The moments of a run go on one from the other.
-use Rattle.std.proofs.Common.{◌≡◌, ℕ, zero, suc, List, [], ◌∷◌, ◌++◌, refl, arith}
+use Rattle.std.proofs.Common.{◌≡◌, ℕ, zero, suc, List, [], ◌∷◌, ◌++◌, refl}
 use Rattle.std.specs.Prelude.{Option, Some, None, ⊤}
-use Rattle.ppp_script.specs.Event.{steps_in}
 use Rattle.ppp_script.specs.declared.event.Event.{Event}
 use Rattle.ppp_world.specs.Run.{Moment, Place, moment_at, after_moment, deliveries, moments_by, moments_of, place_after, run_from}
 use Rattle.ppp_world.specs.Step.{settling, next_delivery}
@@ -31,9 +30,3 @@ linked_run p [] = tt
 linked_run p (event ∷ events) =
     let ms = moments_of event p in
     linked_append p ms (run_from (place_after p ms) events) (linked_event event p) (linked_run (place_after p ms) events)
-
-pub steps-settling : (event : Event) (count : ℕ) → settling event ≡ Some count → steps_in event ≡ count
-steps-settling event count is = grind arith
-
-pub steps-other : (event : Event) → settling event ≡ None → steps_in event ≡ 1
-steps-other event is = grind arith

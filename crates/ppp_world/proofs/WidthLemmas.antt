@@ -1,9 +1,8 @@
 -- No span is refused where none is too wide, and the search for one may leave out what is narrow.
-use Rattle.std.proofs.Common.{inl, inr, ◌≡◌, ℕ, zero, suc, ◌+◌, ◌-◌, ◌≤◌, ◌<◌, Bool, true, false, List, [], ◌∷◌, length, drop, refl, sym, ap, ◌∙◌, subst, arith}
-use Rattle.std.specs.Prelude.{◌≢◌, get_or, Option, Some, None, nat_lt, if◌then◌else◌}
-use Rattle.std.proofs.Math.ListN.{drop_of_length-le}
+use Rattle.std.proofs.Common.{inl, inr, ◌≡◌, ℕ, zero, suc, ◌+◌, ◌-◌, ◌≤◌, ◌<◌, Bool, true, false, List, [], ◌∷◌, length, refl, sym, ap, ◌∙◌, subst, arith}
+use Rattle.std.specs.Prelude.{Option, Some, None, nat_lt, if◌then◌else◌}
+use Rattle.std.specs.Option.{option_or}
 use Rattle.std.proofs.lemmas.Bool.Decides.{nat_tests}
-use Rattle.std.proofs.lemmas.List.{drop_more}
 use Rattle.ppp_duet.specs.Span.{widest}
 use Rattle.ppp_packet.specs.declared.proto.Proto.{Proto}
 use Rattle.ppp_packet.specs.declared.proto.Proto.TheVariants.{Lcp, Ip, Ipv6, Osi, Mpls, Bacp}
@@ -12,7 +11,7 @@ use Rattle.ppp_party.specs.Party.{Ends, turned}
 use Rattle.ppp_party.specs.Spans.{NarrowOn, span_on}
 use Rattle.ppp_script.specs.declared.end.End.{End}
 use Rattle.ppp_script.specs.declared.end.End.TheVariants.{A, B}
-use Rattle.ppp_world.specs.Outstanding.{first_among, or_else, outstanding_from, outstanding_in, outstanding_on, outstanding_on_link, protocols}
+use Rattle.ppp_world.specs.Outstanding.{first_among, outstanding_from, outstanding_in, outstanding_on, outstanding_on_link, protocols}
 use Rattle.ppp_world.specs.declared.outstanding.Outstanding.{Outstanding}
 
 -- ---- one span
@@ -33,16 +32,12 @@ fits-on name m e p none = fits_if _ _ (span_on m p e) refl none
 
 -- ---- those of a link
 
-neither : {X : Type 0} (x y : Option X) → or_else x y ≡ None → (x ≡ None) × (y ≡ None)
+neither : {X : Type 0} (x y : Option X) → option_or x y ≡ None → (x ≡ None) × (y ≡ None)
 neither None None h = (refl, refl)
 neither None (Some y) h = absurd (cc)
 neither (Some x) y h = absurd (cc)
 
-none-behind : {X : Type 0} (x y : Option X) → y ≡ None → or_else x y ≡ x
-none-behind None y none = none
-none-behind (Some x) y none = refl
-
-none-front : {X : Type 0} (x y : Option X) → x ≡ None → or_else x y ≡ y
+none-front : {X : Type 0} (x y : Option X) → x ≡ None → option_or x y ≡ y
 none-front None y none = refl
 none-front (Some x) y none = absurd (cc)
 
@@ -68,7 +63,7 @@ each-among f none p =
     of Mpls lcp ip ipv6 osi mpls bacp = mpls
     of Bacp lcp ip ipv6 osi mpls bacp = bacp
 
-none-on-link : (name : End) (m : ℕ) (e : Ends) → ((p : Proto) → span_on m p e ≤ widest) → outstanding_on_link name m e ≡ None
+pub none-on-link : (name : End) (m : ℕ) (e : Ends) → ((p : Proto) → span_on m p e ≤ widest) → outstanding_on_link name m e ≡ None
 none-on-link name m e fit = none-among (outstanding_on name m e) protocols (λ p. none-on name m e p (fit p))
 
 fit-on-link : (name : End) (m : ℕ) (e : Ends) → outstanding_on_link name m e ≡ None → (p : Proto) → span_on m p e ≤ widest
@@ -91,50 +86,27 @@ each-from name (suc more) m e none i above below =
       | inr other ↦ each-from name more (m + 1) e both.1 i (omega (arith, above, other)) (omega (arith, below))
     ]
 
--- of links that are all narrow but one, that one decides
-only-from : (name : End) (more m l : ℕ) (e : Ends) → m ≤ l → l < m + more → ((i : ℕ) → m ≤ i → i < m + more → i ≢ l → outstanding_on_link name i e ≡ None) →
-    outstanding_from name more m e ≡ outstanding_on_link name l e
-only-from name zero m l e above below others = absurd (omega (arith, above, below))
-only-from name (suc more) m l e above below others =
-    elim (same-or m l) [
-      | inl here ↦
-          none-behind (outstanding_on_link name m e) (outstanding_from name more (m + 1) e)
-          (none-from name more (m + 1) e (λ i over under. others i (omega (arith, over)) (omega (arith, under)) (λ same. absurd (omega (arith, over, same, here)))))
-          ∙ ap (λ j. outstanding_on_link name j e) here
-      | inr other ↦
-          none-front (outstanding_on_link name m e) (outstanding_from name more (m + 1) e) (others m (omega arith) (omega arith) other)
-          ∙ only-from name more (m + 1) l e (omega (arith, above, other)) (omega (arith, below)) (λ i over under. others i (omega (arith, over)) (omega (arith, under)))
-    ]
-
 -- ---- those of a world
 
 -- each protocol on each link is narrow
 abbrev pub AllNarrow : Ends → Type 0
-AllNarrow e = (m : ℕ) (p : Proto) → 1 ≤ m → m ≤ length e.own.links → NarrowOn m p e
+AllNarrow e = (m : ℕ) (p : Proto) → 1 ≤ m → m ≤ length e.own.station.links → NarrowOn m p e
 
 pub none-outstanding : (e : Ends) → AllNarrow e → outstanding_in e ≡ None
 none-outstanding e narrow =
-    none-front (outstanding_from A (length e.own.links) 1 e) (outstanding_from B (length e.own.links) 1 (turned e))
-    (none-from A (length e.own.links) 1 e (λ i above below. none-on-link A i e (λ p. (narrow i p above (omega (arith, below))).of_own)))
-    ∙ none-from B (length e.own.links) 1 (turned e) (λ i above below. none-on-link B i (turned e) (λ p. (narrow i p above (omega (arith, below))).of_other))
+    none-front (outstanding_from A (length e.own.station.links) 1 e) (outstanding_from B (length e.own.station.links) 1 (turned e))
+    (none-from A (length e.own.station.links) 1 e (λ i above below. none-on-link A i e (λ p. (narrow i p above (omega (arith, below))).of_own)))
+    ∙ none-from B (length e.own.station.links) 1 (turned e) (λ i above below. none-on-link B i (turned e) (λ p. (narrow i p above (omega (arith, below))).of_other))
 
 pub all-narrow : (e : Ends) → outstanding_in e ≡ None → AllNarrow e
 all-narrow e none m p above below =
-    let both = neither (outstanding_from A (length e.own.links) 1 e) (outstanding_from B (length e.own.links) 1 (turned e)) none in
+    let both = neither (outstanding_from A (length e.own.station.links) 1 e) (outstanding_from B (length e.own.station.links) 1 (turned e)) none in
     record {
-      of_own = fit-on-link A m e (each-from A (length e.own.links) 1 e both.0 m above (omega (arith, below))) p;
-      of_other = fit-on-link B m (turned e) (each-from B (length e.own.links) 1 (turned e) both.1 m above (omega (arith, below))) p;
+      of_own = fit-on-link A m e (each-from A (length e.own.station.links) 1 e both.0 m above (omega (arith, below))) p;
+      of_other = fit-on-link B m (turned e) (each-from B (length e.own.station.links) 1 (turned e) both.1 m above (omega (arith, below))) p;
     }
 
-pub there-only : (l : ℕ) (e : Ends) → 1 ≤ l → l ≤ length e.own.links → ((m : ℕ) (p : Proto) → 1 ≤ m → m ≤ length e.own.links → m ≢ l → NarrowOn m p e) →
-    outstanding_in e ≡ or_else (outstanding_on_link A l e) (outstanding_on_link B l (turned e))
-there-only l e above below narrow =
-    ap (λ x. or_else x (outstanding_from B (length e.own.links) 1 (turned e)))
-    (only-from A (length e.own.links) 1 l e above (omega (arith, below)) (λ i over under other. none-on-link A i e (λ p. (narrow i p over (omega (arith, under)) other).of_own)))
-    ∙ ap (λ x. or_else (outstanding_on_link A l e) x)
-    (only-from B (length e.own.links) 1 l (turned e) above (omega (arith, below)) (λ i over under other. none-on-link B i (turned e) (λ p. (narrow i p over (omega (arith, under)) other).of_other)))
-
--- ---- the search, link by link and protocol by protocol
+-- ---- the search, link by link
 
 pub next-link : (name : End) (links i : ℕ) (e : Ends) → i < links → outstanding_on_link name (i + 1) e ≡ None →
     outstanding_from name (links - i) (i + 1) e ≡ outstanding_from name (links - (i + 1)) (i + 1 + 1) e
@@ -147,13 +119,4 @@ pub found-link : (name : End) (links i : ℕ) (e : Ends) (fault : Outstanding) �
     outstanding_from name (links - i) (i + 1) e ≡ Some fault
 found-link name links i e fault below some =
     let left : links - i ≡ suc (links - (i + 1)) = omega arith in
-    ap (λ more. outstanding_from name more (i + 1) e) left ∙ ap (λ x. or_else x (outstanding_from name (links - (i + 1)) (i + 1 + 1) e)) some
-
-pub next-protocol : {X : Type 0} (f : Proto → Option X) (i : ℕ) (d : Proto) → i < 6 → f (get_or protocols i d) ≡ None → first_among f (drop i protocols) ≡ first_among f (drop (i + 1) protocols)
-next-protocol f i d few none = ap (first_among f) (drop_more protocols i d few) ∙ none-front (f (get_or protocols i d)) (first_among f (drop (i + 1) protocols)) none
-
-pub found-protocol : {X : Type 0} (f : Proto → Option X) (i : ℕ) (d : Proto) (x : X) → i < 6 → f (get_or protocols i d) ≡ Some x → first_among f (drop i protocols) ≡ Some x
-found-protocol f i d x few some = ap (first_among f) (drop_more protocols i d few) ∙ ap (λ o. or_else o (first_among f (drop (i + 1) protocols))) some
-
-pub no-protocol : {X : Type 0} (f : Proto → Option X) (i : ℕ) → 6 ≤ i → first_among f (drop i protocols) ≡ None
-no-protocol f i all = ap (first_among f) (drop_of_length-le protocols all)
+    ap (λ more. outstanding_from name more (i + 1) e) left ∙ ap (λ x. option_or x (outstanding_from name (links - (i + 1)) (i + 1 + 1) e)) some

@@ -6,9 +6,10 @@ use Rattle.std.proofs.lemmas.List.{append-nil}
 use Rattle.std.proofs.lemmas.List.Elements.{All-nil, All-cons, All-head, All-tail}
 use Rattle.ppp_party.specs.Party.{Ends}
 use Rattle.ppp_script.specs.declared.event.Event.{Event}
-use Rattle.ppp_world.specs.Makes.{AllRight, IsRight, LendThroughout, MakeThroughout}
+use Rattle.ppp_world.specs.Makes.{AllRight, IsRight, LendThroughout, MakeThroughout, SentEverywhere, SentThroughout}
 use Rattle.ppp_world.specs.Outstanding.{outstanding_in}
 use Rattle.ppp_world.specs.Run.{Moment, Place, moment_at, after_moment, deliveries, moments_of, place_after, run_from, shown, shown_at, report, refusal, refusal_with, before_refusal, kept_with, AgreeEverywhere, AgreeThroughout}
+use Rattle.ppp_world.specs.SameControl.{SameControl, SameControlThroughout}
 use Rattle.ppp_world.specs.Step.{moved, next_delivery, settling, step_of}
 use Rattle.ppp_world.specs.World.{World, world_of, place_of, written_by, unless_halted, does_moment, does_moments, does_step, world_after, settled, UnlessMemory, IsSound, IsSoundUnless}
 use Rattle.ppp_world.specs.declared.outstanding.Outstanding.{Outstanding as Outstanding'}
@@ -268,12 +269,13 @@ pub record SettlesOn (count i : ℕ) (first now : World) : Type 0 where
   pub done : UnlessMemory now.halt (settled count first ≡ settled (count - i) now)
   pub halted : IsSome first.halt → now ≡ first
   pub steps : now.steps ≤ first.steps + i
+  pub later : first.steps ≤ now.steps
   pub right : first.halt ≡ None → RightSoFar count (count - i) first (place_of now) now.halt
 
 pub settles_first : (count : ℕ) (first : World) → SettlesOn count 0 first first
 settles_first count first =
     let whole : count - 0 ≡ count = omega arith in
-    record { done = unless_always first.halt (rw whole refl); halted = λ some. refl; steps = omega arith; right = λ going. rw (going, whole) (λ all. all) }
+    record { done = unless_always first.halt (rw whole refl); halted = λ some. refl; steps = omega arith; later = omega arith; right = λ going. rw (going, whole) (λ all. all) }
 
 settles-right : (count i : ℕ) (first now next : World) → i < count → UnlessMemory next.halt (next ≡ does_step now (next_delivery now.ends)) → (IsSome now.halt → next ≡ now) →
     (now.halt ≡ None → next.halt ≡ None → IsRight now.ends (moment_at (place_of now) (next_delivery now.ends))) → (o : Option WorldFault) → now.halt ≡ o →
@@ -300,34 +302,24 @@ settles-right count i first now next below done stays right None going far =
 settles-right count i first now next below done stays right (Some Memory) is far = let same : next ≡ now = stays (rw is refl) in rw (same, is) tt
 settles-right count i first now next below done stays right (Some (Outstanding why)) is far = let same : next ≡ now = stays (rw is refl) in rw (same, is) far
 
-pub settles_next : (count i : ℕ) (first now next : World) → i < count → UnlessMemory next.halt (next ≡ does_step now (next_delivery now.ends)) → (IsSome now.halt → next ≡ now) → next.steps ≤ now.steps + 1 →
+pub settles_next : (count i : ℕ) (first now next : World) → i < count → UnlessMemory next.halt (next ≡ does_step now (next_delivery now.ends)) → (IsSome now.halt → next ≡ now) → next.steps ≤ now.steps + 1 → now.steps ≤ next.steps →
     (now.halt ≡ None → next.halt ≡ None → IsRight now.ends (moment_at (place_of now) (next_delivery now.ends))) → SettlesOn count i first now → SettlesOn count (i + 1) first next
-settles_next count i first now next below done stays steps right far =
+settles_next count i first now next below done stays steps later right far =
     let left : count - i ≡ suc (count - (i + 1)) = omega arith in
     record {
       done = unless_both next.halt (unless_later now.halt now next (settled count first ≡ settled (count - i) now) refl stays far.done) done
           (λ before one. before ∙ ap (λ k. settled k now) left ∙ settled_next (count - (i + 1)) now ∙ ap (settled (count - (i + 1))) (sym one));
       halted = λ some. let same : now ≡ first = far.halted some in stays (rw same some) ∙ same;
       steps = omega (arith, far.steps, steps);
+      later = omega (arith, far.later, later);
       right = λ going. settles-right count i first now next below done stays right now.halt refl (far.right going);
     }
-
-pub settles_all : (count i : ℕ) (first now : World) → count ≤ i → SettlesOn count i first now → UnlessMemory now.halt (now ≡ settled count first)
-settles_all count i first now all far =
-    let none : count - i ≡ 0 = omega arith in
-    unless_map now.halt far.done (λ same. sym (same ∙ ap (λ k. settled k now) none))
 
 -- when nothing is left all are right
 all-right : (o : Option WorldFault) (rest whole : Type 0) → rest → SoFar o rest whole → UnlessMemory o whole
 all-right None rest whole none far = far none
 all-right (Some Memory) rest whole none far = tt
 all-right (Some (Outstanding why)) rest whole none far = far
-
-pub settled-right : (count i : ℕ) (first now : World) → count ≤ i → SettlesOn count i first now → first.halt ≡ None →
-    UnlessMemory now.halt (AllRight first.ends (before_refusal (deliveries count (place_of first))))
-settled-right count i first now all far going =
-    let none : count - i ≡ 0 = omega arith in
-    all-right now.halt _ _ (rw none tt) (far.right going)
 
 -- an event that is one step
 pub one-right : (now next : World) (step : Step) → now.halt ≡ None → UnlessMemory next.halt (next ≡ does_step now step) → (next.halt ≡ None → IsRight now.ends (moment_at (place_of now) step)) →
@@ -336,11 +328,12 @@ one-right now next step going done right =
     let m = moment_at (place_of now) step in
     all-right next.halt (AllRight m.after (before_refusal [])) (AllRight now.ends (before_refusal (m ∷ []))) tt (right-moment now next m [] (AllRight now.ends (before_refusal (m ∷ []))) going done right (λ all. all))
 
-pub event-right : (now next : World) (event : Event) (step : Step) → settling event ≡ None → step ≡ step_of (length now.ends.own.links) event → now.halt ≡ None →
+pub event-right : (now next : World) (event : Event) (step : Step) → settling event ≡ None → step ≡ step_of (length now.ends.own.station.links) event → now.halt ≡ None →
     UnlessMemory next.halt (next ≡ does_step now step) → (next.halt ≡ None → IsRight now.ends (moment_at (place_of now) step)) → UnlessMemory next.halt (AllRight now.ends (before_refusal (moments_of event (place_of now))))
 event-right now next event step one is going done right = rw (one, ← is) (one-right now next step going done right)
 
--- in particular two Opened ends agree, each step is a list of the two ends' events, and a delivery lends its frame
+-- in particular two Opened ends agree, each step is a list of the two ends' events, what is under way was sent, both ends of a
+-- bundle have the same control link, and a delivery lends its frame
 rights-agree : (e : Ends) (ms : List Moment) → AllRight e ms → AgreeThroughout ms
 rights-agree e [] right = All-nil (λ (x : Moment). AgreeEverywhere x.after)
 rights-agree e (m ∷ ms) right = All-cons (λ (x : Moment). AgreeEverywhere x.after) m ms right.0.agreed (rights-agree m.after ms right.1)
@@ -348,6 +341,14 @@ rights-agree e (m ∷ ms) right = All-cons (λ (x : Moment). AgreeEverywhere x.a
 rights-make : (e : Ends) (ms : List Moment) → AllRight e ms → MakeThroughout e ms
 rights-make e [] right = tt
 rights-make e (m ∷ ms) right = (right.0.makes, rights-make m.after ms right.1)
+
+rights-sent : (e : Ends) (ms : List Moment) → AllRight e ms → SentThroughout ms
+rights-sent e [] right = All-nil (λ (x : Moment). SentEverywhere x.after)
+rights-sent e (m ∷ ms) right = All-cons (λ (x : Moment). SentEverywhere x.after) m ms right.0.sent (rights-sent m.after ms right.1)
+
+rights-control : (e : Ends) (ms : List Moment) → AllRight e ms → SameControlThroughout ms
+rights-control e [] right = All-nil (λ (x : Moment). SameControl x.after)
+rights-control e (m ∷ ms) right = All-cons (λ (x : Moment). SameControl x.after) m ms right.0.control (rights-control m.after ms right.1)
 
 rights-lend : (e : Ends) (ms : List Moment) → AllRight e ms → LendThroughout e ms
 rights-lend e [] right = tt
@@ -359,9 +360,11 @@ unless-agree o e ms right = unless_map o right (rights-agree e ms)
 pub unless-make : (o : Option WorldFault) (e : Ends) (ms : List Moment) → UnlessMemory o (AllRight e ms) → UnlessMemory o (MakeThroughout e ms)
 unless-make o e ms right = unless_map o right (rights-make e ms)
 
+pub unless-sent : (o : Option WorldFault) (e : Ends) (ms : List Moment) → UnlessMemory o (AllRight e ms) → UnlessMemory o (SentThroughout ms)
+unless-sent o e ms right = unless_map o right (rights-sent e ms)
+
 pub unless-lend : (o : Option WorldFault) (e : Ends) (ms : List Moment) → UnlessMemory o (AllRight e ms) → UnlessMemory o (LendThroughout e ms)
 unless-lend o e ms right = unless_map o right (rights-lend e ms)
 
--- the world goes on, so what it keeps holds
-pub sound-world : (ends : Ends) (steps : ℕ) (halt : Option WorldFault) (w : World) → IsSoundUnless halt ends steps → world_of ends steps w.report halt ≡ w → w.halt ≡ None → IsSound ends steps
-sound-world ends steps halt w sound is going = sound_unless halt ends steps sound (ap (λ (x : World). x.halt) is ∙ going)
+pub unless-control : (o : Option WorldFault) (e : Ends) (ms : List Moment) → UnlessMemory o (AllRight e ms) → UnlessMemory o (SameControlThroughout ms)
+unless-control o e ms right = unless_map o right (rights-control e ms)

@@ -1,4 +1,5 @@
 pub mod Agreement
+pub mod BundleLines
 pub mod Decided
 pub mod Difference
 pub mod Makes
@@ -8,5 +9,6 @@ pub mod Refusal
 pub mod Replay
 pub mod Report
 pub mod Run
+pub mod SameControl
 pub mod Step
 pub mod World

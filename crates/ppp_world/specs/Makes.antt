@@ -1,9 +1,9 @@
--- What a step of a world is to the two ends of each protocol on each link, a list of the two ends' own events; and the frame that
--- a delivery lends.
-use Rattle.std.specs.Prelude.{◌≡◌, ℕ, ⊤, List, [], ◌∷◌, Option, Some}
+-- What a step of a world is to the two ends of each protocol on each link, a list of the two ends' own events; the frames that
+-- are under way; and the frame that a delivery lends.
+use Rattle.std.specs.Prelude.{◌≡◌, ℕ, ⊤, List, [], ◌∷◌, length, All, Option, Some}
 use Rattle.std.specs.Option.{option_and_then}
 use Rattle.ppp_duet.specs.Duet as duet
-use Rattle.ppp_duet.specs.Duet.{Duet, Setup, Side}
+use Rattle.ppp_duet.specs.Duet.{Duet, Setup, Side, start}
 use Rattle.ppp_frame.specs.Deframer.{feed_step}
 use Rattle.ppp_frame.specs.Header.{Read}
 use Rattle.ppp_link.specs.Link.{Link, read_by}
@@ -13,10 +13,13 @@ use Rattle.ppp_party.specs.Events.{Leads, Makes}
 use Rattle.ppp_party.specs.Frame.{Frame}
 use Rattle.ppp_party.specs.Ledger.{first_id}
 use Rattle.ppp_party.specs.Party.{Ends}
+use Rattle.ppp_party.specs.Seat.{AreSent}
 use Rattle.ppp_party.specs.Spans.{queue_on}
 use Rattle.ppp_script.specs.declared.end.End.{End}
 use Rattle.ppp_script.specs.declared.end.End.TheVariants.{A, B}
+use Rattle.ppp_station.specs.Station.{IsOfLink}
 use Rattle.ppp_world.specs.Agreement.{duet_on, link_on}
+use Rattle.ppp_world.specs.SameControl.{SameControl}
 use Rattle.ppp_world.specs.Run.{Moment, AgreeEverywhere}
 use Rattle.ppp_world.specs.Step.{party_at, peer_of, word_of}
 use Rattle.ppp_world.specs.declared.step.Step.{Step}
@@ -37,14 +40,15 @@ abbrev pub anew_in : Setup → Setup → ℕ → End → Duet → Duet
 anew_in sa sb k at d = duet.happens sa sb d (record { side = side_of at; what = duet.Reboots; word = word_of (peer_of at) k })
 
 -- The k-th step leads from a state of the two ends to another: by their events, of which only the first may be a delivery. Where
--- an end begins anew that event is the first, and those behind it deliver nothing.
+-- an end begins anew that event is the first, and those behind it deliver nothing. A report, and a step that does nothing, leaves
+-- the two ends as they are.
 abbrev pub LeadsIn : ℕ → Step → Setup → Setup → Duet → Duet → Type 0
 LeadsIn k (Reboots at) sa sb before after = Leads sa sb (anew_in sa sb k at before) after
 LeadsIn k (Happens at l what) sa sb before after = Makes sa sb before after
 LeadsIn k (Delivers at l) sa sb before after = Makes sa sb before after
 LeadsIn k (Loses at l place) sa sb before after = Makes sa sb before after
-LeadsIn k Reports sa sb before after = Makes sa sb before after
-LeadsIn k Rests sa sb before after = Makes sa sb before after
+LeadsIn k Reports sa sb before after = after ≡ before
+LeadsIn k Rests sa sb before after = after ≡ before
 
 -- ---- and of a world
 
@@ -58,7 +62,7 @@ pub record StandsOn (m : ℕ) (p : Proto) (e : Ends) (IsSo : Duet → Type 0) : 
 abbrev pub RelatesOn : (Setup → Setup → Duet → Duet → Type 0) → ℕ → Proto → Ends → Ends → Type 0
 RelatesOn Is m p before after =
     (d : Duet) → duet_on m p before ≡ Some d
-    → StandsOn m p after (Is (setup_on m p before.own.links) (setup_on m p before.other.links) d)
+    → StandsOn m p after (Is (setup_on m p before.own.station.links) (setup_on m p before.other.station.links) d)
 
 abbrev pub MakesOn : ℕ → Proto → ℕ → Step → Ends → Ends → Type 0
 MakesOn m p k step before after = RelatesOn (LeadsIn k step) m p before after
@@ -66,6 +70,32 @@ MakesOn m p k step before after = RelatesOn (LeadsIn k step) m p before after
 -- on each link, each protocol
 abbrev pub MakesEverywhere : Ends → Moment → Type 0
 MakesEverywhere before did = (m : ℕ) (p : Proto) → MakesOn m p did.number did.step before did.after
+
+-- ---- as both ends begin
+
+-- the two ends of a protocol on a link stand where events that deliver nothing lead from their start
+abbrev pub StartsOn : ℕ → Proto → Ends → Type 0
+StartsOn m p e =
+    let sa = setup_on m p e.own.station.links in
+    let sb = setup_on m p e.other.station.links in
+    (d : Duet) → duet_on m p e ≡ Some d → Leads sa sb (start sa sb) d
+
+abbrev pub StartEverywhere : Ends → Type 0
+StartEverywhere e = (m : ℕ) (p : Proto) → StartsOn m p e
+
+-- ---- the frames under way
+
+-- what is under way on a link, both ways, are frames that carry packets of control protocols
+abbrev pub SentOn : ℕ → Ends → Type 0
+SentOn m e = AreSent (queue_on m e.own) × AreSent (queue_on m e.other)
+
+-- on each link that is there
+abbrev pub SentEverywhere : Ends → Type 0
+SentEverywhere e = (m : ℕ) → IsOfLink (length e.own.station.links) m → SentOn m e
+
+-- so it is after each of these moments
+abbrev pub SentThroughout : List Moment → Type 0
+SentThroughout ms = All (λ m. SentEverywhere m.after) ms
 
 -- ---- the frame that is lent
 
@@ -81,7 +111,7 @@ lent_on l links = option_and_then (λ k. k.deframer.frame) (link_on l links)
 abbrev pub LendsIn : Step → Ends → Ends → Type 0
 LendsIn (Delivers at l) before after =
     (f : Frame) (rest : List Frame) → queue_on l (party_at at before) ≡ f ∷ rest
-    → lent_on l (party_at at after).links ≡ option_and_then (read_on f.octets) (link_on l (party_at at before).links)
+    → lent_on l (party_at at after).station.links ≡ option_and_then (read_on f.octets) (link_on l (party_at at before).station.links)
 LendsIn (Happens at l what) before after = ⊤
 LendsIn (Loses at l place) before after = ⊤
 LendsIn (Reboots at) before after = ⊤
@@ -108,6 +138,8 @@ LendThroughout before ms = Throughout Lends before ms
 pub record IsRight (before : Ends) (m : Moment) : Type 0 where
   pub agreed : AgreeEverywhere m.after
   pub makes : MakesEverywhere before m
+  pub sent : SentEverywhere m.after
+  pub control : SameControl m.after
   pub lends : Lends before m
 
 abbrev pub AllRight : Ends → List Moment → Type 0

@@ -1,18 +1,19 @@
--- Where a step can make a span too wide: on its link, where an ordinal rose there; and anywhere, where an end began anew.
-use Rattle.std.specs.Prelude.{◌≡◌, ◌≤◌, ℕ, None, ⊤}
+-- Where a step can make a span too wide: on links where an ordinal of its end rose; and anywhere, where an end began anew.
+use Rattle.std.specs.Prelude.{◌≡◌, ◌-◌, ◌≤◌, ℕ, length, Option, Some, None, slice_get, ⊤}
 use Rattle.ppp_packet.specs.declared.proto.Proto.{Proto}
 use Rattle.ppp_packet.specs.declared.proto.Proto.TheVariants.{Lcp, Ip, Ipv6, Osi, Mpls, Bacp}
 use Rattle.ppp_party.specs.Party.{Ends, Party, turned}
 use Rattle.ppp_party.specs.Spans.{sent_on}
 use Rattle.ppp_script.specs.declared.end.End.{End}
 use Rattle.ppp_script.specs.declared.end.End.TheVariants.{A, B}
-use Rattle.ppp_world.specs.Outstanding.{or_else, outstanding_in, outstanding_on_link}
+use Rattle.ppp_world.specs.Outstanding.{outstanding_in, outstanding_on_link}
 use Rattle.ppp_world.specs.Step.{party_at}
+use Rattle.ppp_world.specs.declared.span.LinkOrdinals.{LinkOrdinals}
 use Rattle.ppp_world.specs.declared.span.Ordinals.{Ordinals}
 use Rattle.ppp_world.specs.declared.step.Step.{Step}
 use Rattle.ppp_world.specs.declared.step.Step.TheVariants.{Happens, Delivers, Loses, Reboots, Reports, Rests}
 
-abbrev pub ordinal_of : Ordinals → Proto → ℕ
+abbrev pub ordinal_of : LinkOrdinals → Proto → ℕ
 ordinal_of o Lcp = o.lcp
 ordinal_of o Ip = o.ip
 ordinal_of o Ipv6 = o.ipv6
@@ -21,30 +22,50 @@ ordinal_of o Mpls = o.mpls
 ordinal_of o Bacp = o.bacp
 
 -- they are those of an end on a link
-abbrev pub AreOrdinals : ℕ → Party → Ordinals → Type 0
+abbrev pub AreOrdinals : ℕ → Party → LinkOrdinals → Type 0
 AreOrdinals l e o = (p : Proto) → ordinal_of o p ≡ sent_on l p e
 
--- they are those of the end and the link of a step, if it is of one
+-- those that are kept of a link: as at the beginning, where none are kept
+abbrev pub ordinal_if : Option LinkOrdinals → Proto → ℕ
+ordinal_if None p = 0
+ordinal_if (Some o) p = ordinal_of o p
+
+abbrev pub ordinal_on : ℕ → Ordinals → Proto → ℕ
+ordinal_on l o p = ordinal_if (slice_get o.links (l - 1)) p
+
+-- they are those of an end on each of its links
+abbrev pub AreOrdinalsOf : Party → Ordinals → Type 0
+AreOrdinalsOf e o = (l : ℕ) (p : Proto) → 1 ≤ l → l ≤ length e.station.links → ordinal_on l o p ≡ sent_on l p e
+
+-- they are those of the end of a step, if it is of one
 abbrev pub AreOrdinalsFor : Step → Ends → Ordinals → Type 0
-AreOrdinalsFor (Happens at l what) e o = AreOrdinals l (party_at at e) o
-AreOrdinalsFor (Delivers at l) e o = AreOrdinals l (party_at at e) o
+AreOrdinalsFor (Happens at l what) e o = AreOrdinalsOf (party_at at e) o
+AreOrdinalsFor (Delivers at l) e o = AreOrdinalsOf (party_at at e) o
 AreOrdinalsFor (Loses at l place) e o = ⊤
 AreOrdinalsFor (Reboots at) e o = ⊤
 AreOrdinalsFor Reports e o = ⊤
 AreOrdinalsFor Rests e o = ⊤
 
 -- none of them rose
-abbrev pub NoneRose : ℕ → Party → Ordinals → Type 0
+abbrev pub NoneRose : ℕ → Party → LinkOrdinals → Type 0
 NoneRose l e before = (p : Proto) → sent_on l p e ≤ ordinal_of before p
 
--- A span that is too wide is one of that link, and there is none if no ordinal of that end rose.
-pub record WidensOn (at : End) (l : ℕ) (before : Ordinals) (e : Ends) : Type 0 where
-  pub there : outstanding_in e ≡ or_else (outstanding_on_link A l e) (outstanding_on_link B l (turned e))
-  pub quiet : NoneRose l (party_at at e) before → outstanding_in e ≡ None
+abbrev pub NoneRoseOn : ℕ → Party → Ordinals → Type 0
+NoneRoseOn l e before = (p : Proto) → sent_on l p e ≤ ordinal_on l before p
+
+-- No span is too wide of the first of two ends, on a link where no ordinal of that party rose.
+abbrev pub QuietElsewhere : End → Party → Ordinals → Ends → Type 0
+QuietElsewhere name party before e =
+    (l : ℕ) → 1 ≤ l → l ≤ length e.own.station.links → NoneRoseOn l party before → outstanding_on_link name l e ≡ None
+
+-- so it is of both
+pub record WidensWhere (party : Party) (before : Ordinals) (e : Ends) : Type 0 where
+  pub a : QuietElsewhere A party before e
+  pub b : QuietElsewhere B party before (turned e)
 
 abbrev pub MayWiden : Step → Ordinals → Ends → Type 0
-MayWiden (Happens at l what) before e = WidensOn at l before e
-MayWiden (Delivers at l) before e = WidensOn at l before e
+MayWiden (Happens at l what) before e = WidensWhere (party_at at e) before e
+MayWiden (Delivers at l) before e = WidensWhere (party_at at e) before e
 MayWiden (Loses at l place) before e = outstanding_in e ≡ None
 MayWiden (Reboots at) before e = ⊤
 MayWiden Reports before e = outstanding_in e ≡ None

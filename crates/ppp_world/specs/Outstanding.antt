@@ -1,11 +1,12 @@
 -- A step is refused that makes a span wider than 255: whose, the ordinal of its last request, and the oldest of which
 -- something is under way. End a comes before end b, then the least link, then the first protocol.
 use Rattle.std.specs.Prelude.{ℕ, zero, suc, ◌+◌, nat_lt, if◌then◌else◌, List, [], ◌∷◌, length, Option, Some, None}
+use Rattle.std.specs.Option.{option_or}
 use Rattle.ppp_packet.specs.Proto.{proto_number}
 use Rattle.ppp_packet.specs.declared.proto.Proto.{Proto}
 use Rattle.ppp_packet.specs.declared.proto.Proto.TheVariants.{Lcp, Ip, Ipv6, Osi, Mpls, Bacp}
 use Rattle.ppp_duet.specs.Span.{widest}
-use Rattle.ppp_party.specs.Party.{Ends, turned}
+use Rattle.ppp_party.specs.Party.{Ends, Party, turned}
 use Rattle.ppp_party.specs.Spans.{oldest_on, sent_on, span_on}
 use Rattle.ppp_script.specs.declared.end.End.{End}
 use Rattle.ppp_script.specs.declared.end.End.TheVariants.{A, B}
@@ -15,6 +16,10 @@ use Rattle.ppp_world.specs.declared.outstanding.Outstanding.{Outstanding}
 abbrev pub protocols : List Proto
 protocols = Lcp ∷ Ip ∷ Ipv6 ∷ Osi ∷ Mpls ∷ Bacp ∷ []
 
+-- two ends, of which that is the first
+abbrev pub ends_of : Party → Party → Ends
+ends_of own other = record { own = own; other = other }
+
 -- the first end's span of a protocol on a link, where it is too wide; the end has that name
 abbrev pub outstanding_on : End → ℕ → Ends → Proto → Option Outstanding
 outstanding_on name m e p =
@@ -22,22 +27,19 @@ outstanding_on name m e p =
     then Some (record { end = name; link = m; protocol = proto_number p; sent = sent_on m p e.own; oldest = oldest_on m p e })
     else None
 
-abbrev pub or_else : {X : Type 0} → Option X → Option X → Option X
-or_else (Some x) other = Some x
-or_else None other = other
-
 abbrev pub first_among : {X : Type 0} → (Proto → Option X) → List Proto → Option X
 first_among f [] = None
-first_among f (p ∷ ps) = or_else (f p) (first_among f ps)
+first_among f (p ∷ ps) = option_or (f p) (first_among f ps)
 
--- on a link, and on so many links from one on
+-- on a link
 abbrev pub outstanding_on_link : End → ℕ → Ends → Option Outstanding
 outstanding_on_link name m e = first_among (outstanding_on name m e) protocols
 
+-- on so many links, from one on
 abbrev pub outstanding_from : End → ℕ → ℕ → Ends → Option Outstanding
 outstanding_from name zero m e = None
-outstanding_from name (suc more) m e = or_else (outstanding_on_link name m e) (outstanding_from name more (m + 1) e)
+outstanding_from name (suc more) m e = option_or (outstanding_on_link name m e) (outstanding_from name more (m + 1) e)
 
 abbrev pub outstanding_in : Ends → Option Outstanding
 outstanding_in e =
-    or_else (outstanding_from A (length e.own.links) 1 e) (outstanding_from B (length e.own.links) 1 (turned e))
+    option_or (outstanding_from A (length e.own.station.links) 1 e) (outstanding_from B (length e.own.station.links) 1 (turned e))

@@ -1,7 +1,7 @@
 -- What the replay of a script comes to.
 use Rattle.std.specs.Prelude.{◌≡◌, ℕ, List, Option, None}
 use Rattle.ppp_conf.specs.Config.{Settings as Config}
-use Rattle.ppp_link.specs.Link.{Link}
+use Rattle.ppp_station.specs.Station.{Station}
 use Rattle.ppp_script.specs.declared.event.Event.{Event}
 use Rattle.ppp_world.specs.Run.{AgreesInRun, refusal, report, report_of, run_of}
 use Rattle.ppp_world.specs.World.{BothBegin}
@@ -10,8 +10,8 @@ use Rattle.ppp_world.specs.declared.refusal.Refusal.{Refusal}
 -- This is the report of the run of these events by stations of these settings, up to the first step that is refused, and this
 -- that refusal. In every state of that run two Opened ends of a protocol agree.
 pub record IsReplay (c : Config) (events : List Event) (octets : List ℕ) (refused : Option Refusal) : Type 0 where
-  pub own : List Link
-  pub other : List Link
+  pub own : Station
+  pub other : Station
   pub begin : BothBegin c own other
   pub reported : octets ≡ report_of own other events
   -- where no step is refused, it is the report of the whole run

@@ -1,8 +1,8 @@
 -- The run of a script, its report, and the first step that is refused.
 use Rattle.std.specs.Prelude.{ℕ, zero, suc, ◌+◌, List, [], ◌∷◌, ◌++◌, length, All, Option, Some, None}
-use Rattle.ppp_link.specs.Link.{Link}
 use Rattle.ppp_party.specs.Party.{Ends, ends_begun}
 use Rattle.ppp_script.specs.declared.event.Event.{Event}
+use Rattle.ppp_station.specs.Station.{Station}
 use Rattle.ppp_station.specs.StationOut.{Entry}
 use Rattle.ppp_packet.specs.declared.proto.Proto.{Proto}
 use Rattle.ppp_world.specs.Agreement.{AgreesOn}
@@ -47,7 +47,7 @@ deliveries (suc count) p =
 -- the moments of an event: as many as it has steps
 abbrev pub moments_by : Option ℕ → Event → Place → List Moment
 moments_by (Some count) event p = deliveries count p
-moments_by None event p = moment_at p (step_of (length p.ends.own.links) event) ∷ []
+moments_by None event p = moment_at p (step_of (length p.ends.own.station.links) event) ∷ []
 
 abbrev pub moments_of : Event → Place → List Moment
 moments_of event p = moments_by (settling event) event p
@@ -60,11 +60,11 @@ abbrev pub run_from : Place → List Event → List Moment
 run_from p [] = []
 run_from p (event ∷ events) = let ms = moments_of event p in ms ++ run_from (place_after p ms) events
 
-abbrev pub place_begun : List Link → List Link → Place
+abbrev pub place_begun : Station → Station → Place
 place_begun own other = record { done = 0; ends = ends_begun own other }
 
--- the run of these events from the beginning of stations of these links: every step with the two ends after it
-abbrev pub run_of : List Link → List Link → List Event → List Moment
+-- the run of these events from the beginning of these stations: every step with the two ends after it
+abbrev pub run_of : Station → Station → List Event → List Moment
 run_of own other events = run_from (place_begun own other) events
 
 -- what is reported of a step
@@ -101,7 +101,7 @@ before_refusal [] = []
 before_refusal (m ∷ ms) = kept_with m (outstanding_in m.after) (before_refusal ms)
 
 -- what a replay reports: the steps before the first that is refused
-abbrev pub report_of : List Link → List Link → List Event → List ℕ
+abbrev pub report_of : Station → Station → List Event → List ℕ
 report_of own other events = report (before_refusal (run_of own other events))
 
 -- two Opened ends of a protocol agree, on each link
@@ -113,6 +113,6 @@ abbrev pub AgreeThroughout : List Moment → Type 0
 AgreeThroughout ms = All (λ m. AgreeEverywhere m.after) ms
 
 -- and so they do from the start of the run of these events up to the first step that is refused
-pub record AgreesInRun (own other : List Link) (events : List Event) : Type 0 where
+pub record AgreesInRun (own other : Station) (events : List Event) : Type 0 where
   pub first : AgreeEverywhere (ends_begun own other)
   pub each : AgreeThroughout (before_refusal (run_of own other events))

@@ -1,6 +1,6 @@
 -- What a step of a script does to the two ends of a world and the frames between them. End a is the first of the two.
 use Rattle.std.specs.Prelude.{ℕ, zero, suc, ◌+◌, ◌-◌, ◌*◌, nat_le, ◌&&◌, ⊤, if◌then◌else◌, List, [], ◌∷◌, ◌++◌, length, Option, Some, None, slice_get}
-use Rattle.ppp_link.specs.Link.{Link}
+use Rattle.ppp_party.specs.Downs.{AllShortDowns}
 use Rattle.ppp_party.specs.Frame.{Frame}
 use Rattle.ppp_party.specs.Happening.{happening_seen}
 use Rattle.ppp_party.specs.Party.{Ends, Party, delivers, first_busy, happens, loses, reboots, turned}
@@ -9,7 +9,7 @@ use Rattle.ppp_script.specs.declared.end.End.{End}
 use Rattle.ppp_script.specs.declared.end.End.TheVariants.{A, B}
 use Rattle.ppp_script.specs.declared.event.Event.{Event}
 use Rattle.ppp_script.specs.declared.event.Event.TheVariants.{Up, Down, AdminOpen, AdminClose, Timeout, Deliver, Lose, Settle, Reboot, Show}
-use Rattle.ppp_station.specs.Station.{IsOfLink, on_link}
+use Rattle.ppp_station.specs.Station.{IsOfLink, Station, on_link}
 use Rattle.ppp_station.specs.StationOut.{AreShort, Entry}
 use Rattle.ppp_station.specs.Steps.{LineDown, Takes}
 use Rattle.ppp_world.specs.declared.step.Step.{Step}
@@ -78,23 +78,23 @@ abbrev pub party_at : End → Ends → Party
 party_at A e = e.own
 party_at B e = e.other
 
-abbrev pub taken_entries : ℕ → List Link → ℕ → Option (List Frame) → List Entry
-taken_entries l links word (Some (f ∷ rest)) = (on_link (Takes f.octets) l links word).out.entries
-taken_entries l links word queue = []
+abbrev pub taken_entries : ℕ → Station → ℕ → Option (List Frame) → List Entry
+taken_entries l st word (Some (f ∷ rest)) = (on_link (Takes f.octets) l st word).out.entries
+taken_entries l st word queue = []
 
 -- so many lines go down, from that link on
-abbrev pub down_entries : ℕ → ℕ → ℕ → List Link → List Entry
-down_entries zero l word links = []
-down_entries (suc more) l word links =
-    let did = on_link LineDown l links word in did.out.entries ++ down_entries more (l + 1) word did.links
+abbrev pub down_entries : ℕ → ℕ → ℕ → Station → List Entry
+down_entries zero l word st = []
+down_entries (suc more) l word st =
+    let did = on_link LineDown l st word in did.out.entries ++ down_entries more (l + 1) word did.station
 
 abbrev pub entries_made : ℕ → Ends → Step → List Entry
-entries_made k e (Happens at l what) = (on_link (happening_seen what) l (party_at at e).links (word_of at k)).out.entries
+entries_made k e (Happens at l what) = (on_link (happening_seen what) l (party_at at e).station (word_of at k)).out.entries
 entries_made k e (Delivers at l) =
-    let party = party_at at e in taken_entries l party.links (word_of at k) (slice_get party.incoming (l - 1))
+    let party = party_at at e in taken_entries l party.station (word_of at k) (slice_get party.incoming (l - 1))
 entries_made k e (Loses at l place) = []
 entries_made k e (Reboots at) =
-    let links = (party_at (peer_of at) e).links in down_entries (length links) 1 (word_of (peer_of at) k) links
+    let st = (party_at (peer_of at) e).station in down_entries (length st.links) 1 (word_of (peer_of at) k) st
 entries_made k e Reports = []
 entries_made k e Rests = []
 
@@ -109,11 +109,11 @@ IsLinked links (Reboots at) = ⊤
 IsLinked links Reports = ⊤
 IsLinked links Rests = ⊤
 
--- no frame that it sends on its link is longer than the longest
+-- no frame that it sends is longer than the longest
 abbrev pub IsShort : ℕ → Ends → Step → Type 0
 IsShort k e (Happens at l what) = AreShort (entries_made k e (Happens at l what))
 IsShort k e (Delivers at l) = AreShort (entries_made k e (Delivers at l))
 IsShort k e (Loses at l place) = ⊤
-IsShort k e (Reboots at) = ⊤
+IsShort k e (Reboots at) = AllShortDowns (word_of (peer_of at) k) (party_at (peer_of at) e).station
 IsShort k e Reports = ⊤
 IsShort k e Rests = ⊤

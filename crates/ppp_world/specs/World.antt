@@ -1,16 +1,15 @@
 -- A world as its calls see it: the two ends, the steps done, the report so far, and why it takes no further step.
 use Rattle.std.specs.Prelude.{◌≡◌, ℕ, ◌*◌, ◌≤◌, List, [], ◌∷◌, ◌++◌, length, Option, Some, None, Result, Ok, Err, ⊤}
 use Rattle.ppp_conf.specs.Config.{Settings as Config}
-use Rattle.ppp_link.specs.Link.{Link}
 use Rattle.ppp_packet.specs.declared.proto.Proto.{Proto}
 use Rattle.ppp_party.specs.Counted.{AreCounted}
 use Rattle.ppp_party.specs.Held.{IsHeld}
 use Rattle.ppp_party.specs.Party.{Ends, ends_begun}
 use Rattle.ppp_party.specs.Spans.{NarrowOn}
 use Rattle.ppp_script.specs.declared.event.Event.{Event}
-use Rattle.ppp_station.specs.Station.{BeginsBy}
+use Rattle.ppp_station.specs.Station.{BeginsBy, Station}
 use Rattle.ppp_world.specs.Outstanding.{outstanding_in}
-use Rattle.ppp_world.specs.Run.{Moment, Place, moment_at, deliveries, moments_of, shown}
+use Rattle.ppp_world.specs.Run.{Moment, Place, before_refusal, moment_at, deliveries, moments_of, shown}
 use Rattle.ppp_world.specs.declared.outstanding.Outstanding.{Outstanding as Outstanding'}
 use Rattle.ppp_world.specs.declared.step.Step.{Step}
 use Rattle.ppp_world.specs.declared.world_fault.WorldFault.{WorldFault}
@@ -27,18 +26,18 @@ pub record World : Type 0 where
 abbrev pub world_of : Ends → ℕ → List ℕ → Option WorldFault → World
 world_of ends steps report halt = record { ends = ends; steps = steps; report = report; halt = halt }
 
-abbrev pub world_begun : List Link → List Link → World
+abbrev pub world_begun : Station → Station → World
 world_begun own other = world_of (ends_begun own other) 0 [] None
 
 -- two stations begin by the settings
-pub record BothBegin (c : Config) (own other : List Link) : Type 0 where
+pub record BothBegin (c : Config) (own other : Station) : Type 0 where
   pub a : BeginsBy c.a own
   pub b : BeginsBy c.b other
 
 -- a world is as it begins by the settings
 pub record IsBegun (c : Config) (w : World) : Type 0 where
-  pub begin : BothBegin c w.ends.own.links w.ends.other.links
-  pub is : w ≡ world_begun w.ends.own.links w.ends.other.links
+  pub begin : BothBegin c w.ends.own.station w.ends.other.station
+  pub is : w ≡ world_begun w.ends.own.station w.ends.other.station
 
 abbrev pub place_of : World → Place
 place_of w = record { done = w.steps; ends = w.ends }
@@ -67,6 +66,10 @@ does_step w step = does_moment w (moment_at (place_of w) step)
 abbrev pub world_after : World → Event → World
 world_after w event = does_moments w (moments_of event (place_of w))
 
+-- the moments of an event that are done: those before the first that is refused
+abbrev pub moments_done : World → Event → List Moment
+moments_done w event = before_refusal (moments_of event (place_of w))
+
 -- so many deliveries
 abbrev pub settled : ℕ → World → World
 settled count w = does_moments w (deliveries count (place_of w))
@@ -93,12 +96,13 @@ UnlessMemory (Some (Outstanding fault)) fact = fact
 abbrev pub most_a_step : ℕ
 most_a_step = 16384
 
--- Both ends have the same links. Of each protocol on each link the laws on two ends hold, or one end doesn't speak it; and no
+-- Both ends have as many links, one at least. Of each protocol on each link the laws on two ends hold, or one end doesn't speak it; and no
 -- span is too wide.
 pub record IsSound (e : Ends) (steps : ℕ) : Type 0 where
-  pub alike : length e.other.links ≡ length e.own.links
-  pub held : (m : ℕ) (p : Proto) → 1 ≤ m → m ≤ length e.own.links → IsHeld m p e
-  pub narrow : (m : ℕ) (p : Proto) → 1 ≤ m → m ≤ length e.own.links → NarrowOn m p e
+  pub some : 1 ≤ length e.own.station.links
+  pub alike : length e.other.station.links ≡ length e.own.station.links
+  pub held : (m : ℕ) (p : Proto) → 1 ≤ m → m ≤ length e.own.station.links → IsHeld m p e
+  pub narrow : (m : ℕ) (p : Proto) → 1 ≤ m → m ≤ length e.own.station.links → NarrowOn m p e
   pub counted_a : AreCounted (most_a_step * steps) e.own
   pub counted_b : AreCounted (most_a_step * steps) e.other
 

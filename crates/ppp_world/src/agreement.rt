@@ -13,7 +13,7 @@ use ppp_station::Station;
 /// or doesn't speak the protocol. That two Opened ends agree is proved of every state that a script leads to, so nothing but
 /// the states is looked at.
 pub(crate) fn agree(a: &Station, b: &Station, link: u8, proto: Proto) -> Option<bool>
-    ensures { result ≡ opened_on link proto a.now b.now }
+    ensures { result ≡ opened_on link proto a.now.links b.now.links }
 {
     match (state(a, link, proto), state(b, link, proto)) {
         (Some(AutoState::Opened), Some(AutoState::Opened)) => Some(true),
@@ -23,7 +23,7 @@ pub(crate) fn agree(a: &Station, b: &Station, link: u8, proto: Proto) -> Option<
 
 /// The state of a protocol on a link of an end, where it has both.
 fn state(station: &Station, link: u8, proto: Proto) -> Option<AutoState>
-    ensures { result ≡ state_on link proto station.now }
+    ensures { result ≡ state_on link proto station.now.links }
 {
     if link == 0 || link > station.links() {
         return None;
@@ -34,8 +34,8 @@ fn state(station: &Station, link: u8, proto: Proto) -> Option<AutoState>
 /// The link of a station of that number.
 #[tactic(auto, using(crate::proofs::AgreementLemmas::link_there))]
 pub(crate) fn link_of(station: &Station, link: u8) -> &Link
-    requires { IsOfLink (length station.now) link }
-    ensures { link_on link station.now ≡ Some result.now }
+    requires { IsOfLink (length station.now.links) link }
+    ensures { link_on link station.now.links ≡ Some result.now }
 {
     station.link(link)
 }

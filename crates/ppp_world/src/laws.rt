@@ -9,18 +9,19 @@ ghost use Rattle.ppp_duet.specs.Reopening.{Reopening};
 ghost use Rattle.ppp_lcp.specs.LcpKind.{kind_number};
 ghost use Rattle.ppp_lcp.specs.declared.lcp_kind.LcpKind.{LcpKind};
 ghost use Rattle.ppp_lcp.specs.declared.lcp_kind.LcpKind.TheVariants.{Magic, Mrru, Short, Classes};
-ghost use Rattle.ppp_lcp.specs.LcpSettings.{settings_seen};
-ghost use Rattle.ppp_lcp.specs.LcpTable.{lcp_rules};
 ghost use Rattle.ppp_ncp.specs.declared.ipv6_table.TheConstants.{IDENTIFIER};
 ghost use Rattle.ppp_options.specs.Rule.{Rule};
 ghost use Rattle.ppp_options.specs.Rules.{Allows, Sendable};
 ghost use Rattle.ppp_script.specs.declared.event.Event.{Event};
-ghost use Rattle.ppp_link.specs.LinkTables.{LinkTables, lcp_table, table_of};
+ghost use Rattle.ppp_link.specs.LinkTables.{LinkTables, table_of};
 ghost use Rattle.ppp_packet.specs.declared.proto.Proto.{Proto};
-ghost use Rattle.ppp_world.specs.Agreement.{passes, rules_of, AgreeBy, Fits};
+ghost use Rattle.ppp_packet.specs.declared.proto.Proto.TheVariants.{Lcp};
+ghost use Rattle.ppp_party.specs.Party.{Ends};
+ghost use Rattle.ppp_world.specs.Agreement.{passes, rules_of, AgreeBy, AgreesOn, Fits};
 ghost use Rattle.ppp_world.specs.Decided.{SettingsDecide};
 ghost use Rattle.ppp_world.specs.Difference.{Difference, BothHaveNumbers, OneFavoured};
 ghost use Rattle.ppp_world.specs.Replay.{IsReplay};
+ghost use Rattle.ppp_world.specs.SameControl.{AreStations, SameControl};
 ghost use Rattle.ppp_world.specs.declared.refusal.Refusal.{Refusal};
 
 use ppp_auto::OptionTable;
@@ -68,13 +69,21 @@ pub fn hold_of_tables()
 /// What a report tells of two Opened ends is what agreement is: the tests of `agree` pass exactly where each end's list is
 /// what the other acknowledged last, may be asked for and was allowed, and the two lists fit.
 pub fn told()
-    ensures passes { (p : Proto) (rs ts : List Rule) (d : Duet) → passes p rs ts d.a d.b ≡ true ↔ AgreeBy p rs ts d }
+    ensures passes { (p : Proto) (rs ts : List Rule) (d : Duet)
+        → passes p rs ts d.a d.b ≡ true ↔ AgreeBy p rs ts d }
 {}
 
 /// Settings and lines decide what a replay comes to, since two stations that begin by the same settings are the same.
 pub fn decided()
-    ensures report { (c : Settings) (events : List Event) (one other : List ℕ) (r s : Option Refusal) →
-        IsReplay c events one r → IsReplay c events other s → one ≡ other }
-    ensures refused { (c : Settings) (events : List Event) (one other : List ℕ) (r s : Option Refusal) →
-        IsReplay c events one r → IsReplay c events other s → r ≡ s }
+    ensures report { (c : Settings) (events : List Event) (one other : List ℕ)
+        (r s : Option Refusal) → IsReplay c events one r → IsReplay c events other s → one ≡ other }
+    ensures refused { (c : Settings) (events : List Event) (one other : List ℕ)
+        (r s : Option Refusal) → IsReplay c events one r → IsReplay c events other s → r ≡ s }
+{}
+
+/// Both ends of a bundle have the same control link: wherever a bundle of one end and one of the other hold the same links, and
+/// LCP's two ends agree on each link where both are Opened. [`World::step`](crate::World::step) keeps that in each state of a
+/// run.
+pub fn same_control()
+    ensures { (e : Ends) → AreStations e → ((l : ℕ) → AgreesOn l Lcp e) → SameControl e }
 {}

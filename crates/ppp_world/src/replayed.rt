@@ -26,7 +26,8 @@ pub struct Replayed {
 /// Replays a script with these settings, up to the first step that is refused. In every state of its run two Opened ends
 /// of a protocol agree, on each link.
 pub fn replay(alloc: Global, config: &Config, script: &Script<Event>) -> Result<Replayed, Memory>
-    ensures { IfOk result (λ r. IsReplay (config_seen config.now) script.now r.report.items r.refused) }
+    ensures { IfOk result
+        (λ r. IsReplay (config_seen config.now) script.now r.report.items r.refused) }
 {
     let mut world = World::new(alloc, config)?;
     for i in 0..script.count() {

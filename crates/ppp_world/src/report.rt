@@ -5,14 +5,16 @@ ghost use Rattle.std.specs.String.{string_bytes};
 ghost use Rattle.ppp_link.specs.Automata.{auto_at};
 ghost use Rattle.ppp_station.specs.Station.{IsOfLink};
 ghost use Rattle.ppp_world.specs.Agreement.{opened_on};
-ghost use Rattle.ppp_world.specs.Report.{agree_text, list_text, both_states, granted_text, line, line_on, link_lines, show_block, state_text, terms_text};
+ghost use Rattle.ppp_world.specs.Report.{agree_text, list_text, both_states, granted_text, line, line_on, link_lines, links_block, show_block, state_text, terms_text};
 
 use crate::agreement::{agree, link_of};
+use crate::bundle_lines::write_bundles;
 use crate::outstanding::PROTOCOLS;
 use ppp_auto::AutoState;
 use ppp_link::Link;
 use ppp_memory::Memory;
 use ppp_packet::{OptList, Proto};
+use ppp_script::End;
 use ppp_station::Station;
 use ppp_text::HexText;
 use std::fmt;
@@ -24,9 +26,20 @@ pub(crate) fn write_show(
     a: &Station,
     b: &Station,
 ) -> Result<(), Memory>
-    requires { length a.now ≡ length b.now }
+    requires { length a.now.links ≡ length b.now.links }
     ensures { OnOk result (string_bytes report.new
         ≡ string_bytes report.old ++ show_block step a.now b.now) }
+{
+    write_links(report, step, a, b)?;
+    write_bundles(report, End::A, a.bundles())?;
+    write_bundles(report, End::B, b.bundles())
+}
+
+/// Writes what is said of the links.
+fn write_links(report: &mut String, step: u32, a: &Station, b: &Station) -> Result<(), Memory>
+    requires { length a.now.links ≡ length b.now.links }
+    ensures { OnOk result (string_bytes report.new ≡ string_bytes report.old
+        ++ links_block (λ m p. opened_on m p a.now.links b.now.links) step a.now b.now) }
 {
     write!(report, "show {step}\n").map_err(|_| Memory)?;
     for i in 0..a.links() {
@@ -37,10 +50,10 @@ pub(crate) fn write_show(
 
 /// Writes the lines of a link.
 fn write_link(report: &mut String, link: u8, a: &Station, b: &Station) -> Result<(), Memory>
-    requires of_a { IsOfLink (length a.now) link }
-    requires of_b { IsOfLink (length b.now) link }
+    requires of_a { IsOfLink (length a.now.links) link }
+    requires of_b { IsOfLink (length b.now.links) link }
     ensures { OnOk result (string_bytes report.new ≡ string_bytes report.old
-        ++ link_lines (λ m p. opened_on m p a.now b.now) link a.now b.now) }
+        ++ link_lines (λ m p. opened_on m p a.now.links b.now.links) link a.now.links b.now.links) }
 {
     for i in 0..PROTOCOLS.len() {
         write_proto(report, link, PROTOCOLS[i], a, b)?;
@@ -56,10 +69,10 @@ fn write_proto(
     a: &Station,
     b: &Station,
 ) -> Result<(), Memory>
-    requires of_a { IsOfLink (length a.now) link }
-    requires of_b { IsOfLink (length b.now) link }
+    requires of_a { IsOfLink (length a.now.links) link }
+    requires of_b { IsOfLink (length b.now.links) link }
     ensures { OnOk result (string_bytes report.new ≡ string_bytes report.old
-        ++ line_on (λ m p. opened_on m p a.now b.now) link a.now b.now proto) }
+        ++ line_on (λ m p. opened_on m p a.now.links b.now.links) link a.now.links b.now.links proto) }
 {
     let line = Line {
         number: link,

@@ -34,8 +34,9 @@ impl Model for TwoEnds {
 impl TwoEnds {
     /// Both ends as they begin by the settings, with nothing under way.
     pub(crate) fn new(alloc: Global, config: &Config) -> Result<TwoEnds, Memory>
-        ensures begin { IfOk result (λ e. BothBegin (config_seen config.now) e.own.links e.other.links) }
-        ensures begun { IfOk result (λ e. e ≡ ends_begun e.own.links e.other.links) }
+        ensures begin { IfOk result
+            (λ e. BothBegin (config_seen config.now) e.own.station e.other.station) }
+        ensures begun { IfOk result (λ e. e ≡ ends_begun e.own.station e.other.station) }
     {
         Ok(TwoEnds {
             a: Party::new(alloc, &config.a)?,
@@ -46,14 +47,16 @@ impl TwoEnds {
 
     /// Does the step of that number.
     pub(crate) fn does(&mut self, step: Step, number: u32) -> Result<(), Memory>
-        requires linked { IsLinked (length self.old.own.links) step }
-        requires alike { length self.old.other.links ≡ length self.old.own.links }
+        requires linked { IsLinked (length self.old.own.station.links) step }
+        requires alike { length self.old.other.station.links ≡ length self.old.own.station.links }
         requires few_a { AreCounted (2 ^ 61) self.old.own }
         requires few_b { AreCounted (2 ^ 61) self.old.other }
         ensures done { OnOk result (self.new ≡ moved number self.old step) }
-        ensures short { IsShort number self.old step }
-        ensures counted_a { (n : ℕ) → AreCounted n self.old.own → OnOk result (AreCounted (n + most_a_step) self.new.own) }
-        ensures counted_b { (n : ℕ) → AreCounted n self.old.other → OnOk result (AreCounted (n + most_a_step) self.new.other) }
+        ensures short { OnOk result (IsShort number self.old step) }
+        ensures counted_a { (n : ℕ) → AreCounted n self.old.own
+            → OnOk result (AreCounted (n + most_a_step) self.new.own) }
+        ensures counted_b { (n : ℕ) → AreCounted n self.old.other
+            → OnOk result (AreCounted (n + most_a_step) self.new.other) }
     {
         match step {
             Step::Happens(End::A, link, what) => {
@@ -105,7 +108,8 @@ impl TwoEnds {
     /// The delivery of the front frame of the first queue that isn't empty, of a's links upwards and then of b's.
     pub(crate) fn next_delivery(&self) -> Step
         ensures value { result ≡ next_delivery self.now }
-        ensures linked { length self.now.other.links ≡ length self.now.own.links → IsLinked (length self.now.own.links) result }
+        ensures linked { length self.now.other.station.links ≡ length self.now.own.station.links
+            → IsLinked (length self.now.own.station.links) result }
     {
         match (self.a.first_busy(), self.b.first_busy()) {
             (Some(link), _) => Step::Delivers(End::A, link),

@@ -17,7 +17,7 @@ take-requires c =
 pub loop-i-preserved : goal.loop-i-preserved
 loop-i-preserved c =
     fed-next (end_seen c.args.config.now) c.args.script.now (drop c.loop-i.i c.args.script.now) (drop (c.loop-i.i + 1) c.args.script.now) c.at.result.now (c.loop-i.i + 1) c.loop-i.fed.station c.take.new.self.station _ _
-    (lines-left c.args.script.now c.loop-i.i c.at.result.now c.at.ensures.line) c.in_ok-take.ensures.adds.links c.in_ok-take.ensures.adds.text c.in_ok-take.ensures.count c.loop-i.invariant
+    (lines-left c.args.script.now c.loop-i.i c.at.result.now c.at.ensures.line) c.in_ok-take.ensures.adds.station c.in_ok-take.ensures.adds.text c.in_ok-take.ensures.count c.loop-i.invariant
 
 pub returns : goal.returns
 returns c =

@@ -1,8 +1,8 @@
-use Rattle.ppp_station.proofs.CapLemmas.{done-capped, ready-capped}
+use Rattle.ppp_station.proofs.CapLemmas.{begun-caps, kept-caps}
 use Rattle.ppp_station.proofs.laws.caps.Goals as goal
 
 pub returns-clause-begun : goal.returns-clause-begun
-returns-clause-begun c = ready-capped
+returns-clause-begun c = begun-caps
 
 pub returns-clause-kept : goal.returns-clause-kept
-returns-clause-kept c = done-capped
+returns-clause-kept c = kept-caps

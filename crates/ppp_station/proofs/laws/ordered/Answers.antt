@@ -1,11 +1,14 @@
-use Rattle.ppp_station.proofs.WovenLemmas.{done-auto, done-sent, done-tables}
+use Rattle.ppp_station.proofs.MovesLemmas.{all-framed, all-linked, counts, moves-at}
 use Rattle.ppp_station.proofs.laws.ordered.Goals as goal
 
-pub returns-clause-automata : goal.returns-clause-automata
-returns-clause-automata c = done-auto
+pub returns-clause-moved : goal.returns-clause-moved
+returns-clause-moved c = moves-at
 
-pub returns-clause-packets : goal.returns-clause-packets
-returns-clause-packets c = done-sent
+pub returns-clause-framed : goal.returns-clause-framed
+returns-clause-framed c = all-framed
 
-pub returns-clause-tables : goal.returns-clause-tables
-returns-clause-tables c = done-tables
+pub returns-clause-count : goal.returns-clause-count
+returns-clause-count c = counts
+
+pub returns-clause-linked : goal.returns-clause-linked
+returns-clause-linked c = all-linked

@@ -6,7 +6,7 @@ use Rattle.ppp_world.proofs.ReplayLemmas.{replays-begun, replays-room, replays-n
 use Rattle.ppp_world.proofs.replayed.replay.Goals as goal
 
 pub loop-i-init : goal.loop-i-init
-loop-i-init c = replays-begun (config_seen c.args.config.now) c.args.script.now c.in_ok-world.world c.in_ok-world.ensures c.count-i-end.ensures.steps
+loop-i-init c = replays-begun (config_seen c.args.config.now) c.args.script.now c.in_ok-world.world c.in_ok-world.ensures.begun c.count-i-end.ensures.steps
 
 pub step-requires : goal.step-requires
 step-requires c =

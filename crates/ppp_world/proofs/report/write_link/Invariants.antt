@@ -8,4 +8,4 @@ use Rattle.ppp_world.proofs.report.write_link.Given as goal
 
 abbrev pub invariant-loop-i : goal.invariant-loop-i
 invariant-loop-i l =
-    string_bytes l.report ≡ string_bytes l.initial.report ++ flat_map (line_on (λ m p. opened_on m p l.a l.b) l.link l.a l.b) (take l.i protocols)
+    string_bytes l.report ≡ string_bytes l.initial.report ++ flat_map (line_on (λ m p. opened_on m p l.a.links l.b.links) l.link l.a.links l.b.links) (take l.i protocols)

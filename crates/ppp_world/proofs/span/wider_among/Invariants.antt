@@ -4,6 +4,6 @@ use Rattle.ppp_world.proofs.span.wider_among.Given as goal
 
 abbrev pub invariant-loop-i : goal.invariant-loop-i
 invariant-loop-i l = record {
-  left : outstanding_from l.name (length l.own.links) 1 (record { own = l.own; other = l.other })
-      ≡ outstanding_from l.name (length l.own.links - l.i) (l.i + 1) (record { own = l.own; other = l.other });
+  left : outstanding_from l.name (length l.own.station.links) 1 (record { own = l.own; other = l.other })
+      ≡ outstanding_from l.name (length l.own.station.links - l.i) (l.i + 1) (record { own = l.own; other = l.other });
 }

@@ -11,17 +11,13 @@ does-requires-clause-few_a c = few-sent c.args.steps.now c.args.ends.now.own c.r
 pub does-requires-clause-few_b : goal.does-requires-clause-few_b
 does-requires-clause-few_b c = few-sent c.args.steps.now c.args.ends.now.other c.requires.few c.requires.sound.counted_b
 
-pub wider_since-requires-clause-linked : goal.wider_since-requires-clause-linked
-wider_since-requires-clause-linked c =
-    (after-moved (c.args.steps.now + 1) c.args.steps.now c.args.ends.now c.does.new.self c.args.step c.before-before.result c.in-Ok.ensures.done c.requires.sound c.requires.linked c.does.ensures.short c.before-before.ensures).1
-
 pub wider_since-requires-clause-alike : goal.wider_since-requires-clause-alike
 wider_since-requires-clause-alike c =
-    (after-moved (c.args.steps.now + 1) c.args.steps.now c.args.ends.now c.does.new.self c.args.step c.before-before.result c.in-Ok.ensures.done c.requires.sound c.requires.linked c.does.ensures.short c.before-before.ensures).0
+    (after-moved (c.args.steps.now + 1) c.args.steps.now c.args.ends.now c.does.new.self c.args.step c.before-before.result c.in-Ok.ensures.done c.requires.sound c.requires.linked c.in-Ok.ensures.short c.before-before.ensures).0
 
 pub wider_since-requires-clause-widens : goal.wider_since-requires-clause-widens
 wider_since-requires-clause-widens c =
-    (after-moved (c.args.steps.now + 1) c.args.steps.now c.args.ends.now c.does.new.self c.args.step c.before-before.result c.in-Ok.ensures.done c.requires.sound c.requires.linked c.does.ensures.short c.before-before.ensures).2
+    (after-moved (c.args.steps.now + 1) c.args.steps.now c.args.ends.now c.does.new.self c.args.step c.before-before.result c.in-Ok.ensures.done c.requires.sound c.requires.linked c.in-Ok.ensures.short c.before-before.ensures).1
 
 pub returns-in-Some-clause-done : goal.returns-in-Some-clause-done
 returns-in-Some-clause-done c =
@@ -29,11 +25,11 @@ returns-in-Some-clause-done c =
 
 pub show-requires-clause-alike : goal.show-requires-clause-alike
 show-requires-clause-alike c =
-    (after-moved (c.args.steps.now + 1) c.args.steps.now c.args.ends.now c.does.new.self c.args.step c.before-before.result c.in-Ok.ensures.done c.requires.sound c.requires.linked c.does.ensures.short c.before-before.ensures).0
+    (after-moved (c.args.steps.now + 1) c.args.steps.now c.args.ends.now c.does.new.self c.args.step c.before-before.result c.in-Ok.ensures.done c.requires.sound c.requires.linked c.in-Ok.ensures.short c.before-before.ensures).0
 
 pub show-requires-clause-agreed : goal.show-requires-clause-agreed
 show-requires-clause-agreed c =
-    agree-sound c.does.new.self (c.args.steps.now + 1) (sound-done (c.args.steps.now + 1) c.args.steps.now c.args.ends.now c.does.new.self c.args.step c.in-Ok.ensures.done c.requires.sound c.requires.linked c.does.ensures.short
+    agree-sound c.does.new.self (c.args.steps.now + 1) (sound-done (c.args.steps.now + 1) c.args.steps.now c.args.ends.now c.does.new.self c.args.step c.in-Ok.ensures.done c.requires.sound c.requires.linked c.in-Ok.ensures.short
     (sym c.wider_since.ensures ∙ c.in_default.is) (c.in-Ok.ensures.counted_a (most_a_step * c.args.steps.now) c.requires.sound.counted_a) (c.in-Ok.ensures.counted_b (most_a_step * c.args.steps.now) c.requires.sound.counted_b))
 
 pub returns-clause-done : goal.returns-clause-done
@@ -42,8 +38,8 @@ returns-clause-done c =
 
 pub returns-clause-sound : goal.returns-clause-sound
 returns-clause-sound c =
-    sound-done (c.args.steps.now + 1) c.args.steps.now c.args.ends.now c.does.new.self c.args.step c.in-Ok.ensures.done c.requires.sound c.requires.linked c.does.ensures.short
+    sound-done (c.args.steps.now + 1) c.args.steps.now c.args.ends.now c.does.new.self c.args.step c.in-Ok.ensures.done c.requires.sound c.requires.linked c.in-Ok.ensures.short
     (sym c.wider_since.ensures ∙ c.in_default.is) (c.in-Ok.ensures.counted_a (most_a_step * c.args.steps.now) c.requires.sound.counted_a) (c.in-Ok.ensures.counted_b (most_a_step * c.args.steps.now) c.requires.sound.counted_b)
 
 pub returns-clause-right : goal.returns-clause-right
-returns-clause-right c = right-moved c.args.steps.now c.args.ends.now c.args.step c.requires.sound c.requires.linked c.does.ensures.short
+returns-clause-right c = right-moved c.args.steps.now c.args.ends.now c.args.step c.requires.sound c.requires.linked c.in-Ok.ensures.short

@@ -25,12 +25,12 @@ frames-preserved c =
       written = written ++ more;
       text = c.in_ok-used.ensures.adds.text ∙ ap (λ text. text ++ more) c.frames.invariant.text ∙ append_assoc (string_bytes c.args.self.now.text) written more;
       same = frames-next _ written c.frames.rest.now c.split_at.result.1.now c.args.link c.in_ok-used.used c.args.word c.frames.self.station c.take_frame.new.self.station
-          u.link u.some c.in_ok-used.ensures.adds.links c.in_ok-used.ensures.used c.split_at.ensures.back c.frames.invariant.same;
+          u.link u.some c.in_ok-used.ensures.adds.station c.in_ok-used.ensures.used c.split_at.ensures.back c.frames.invariant.same;
     }
 
 pub returns-clause-adds : goal.returns-clause-adds
 returns-clause-adds c =
     let end = frames-end _ c.frames.invariant.written c.frames.rest.now c.args.link c.args.word c.frames.self.station (eqb-true _ _ (sym c.frames-test.ensures)) c.frames.invariant.same in record {
-      links = end.0;
+      station = end.0;
       text = c.frames.invariant.text ∙ ap (λ text. string_bytes c.args.self.now.text ++ text) end.1;
     }

@@ -6,7 +6,7 @@ use Rattle.ppp_feed.proofs.fed.Fed.take_octets.Given as goal
 -- what was written, and then what the octets left come to, is all
 abbrev pub invariant-frames : goal.invariant-frames
 invariant-frames l = record {
-  count : length l.self.station ≡ length l.initial.self.station;
+  count : length l.self.station.links ≡ length l.initial.self.station.links;
   written : List ℕ;
   text : string_bytes l.self.text ≡ string_bytes l.initial.self.text ++ written;
   same : takes (length l.octets) l.link l.octets l.initial.self.station l.word ≡ and_more written (takes (length l.rest) l.link l.rest l.self.station l.word);

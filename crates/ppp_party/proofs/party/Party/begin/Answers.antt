@@ -5,10 +5,10 @@ use Rattle.ppp_party.proofs.party.Party.begin.Goals as goal
 
 pub invariant_of-self : goal.invariant_of-self
 invariant_of-self c =
-    let own : Party = record { links = c.self.inside.station; ledgers = c.self.inside.ledgers.items; incoming = c.self.inside.incoming.items } in
+    let own : Party = record { station = c.self.inside.station; ledgers = c.self.inside.ledgers.items; incoming = c.self.inside.incoming.items } in
     whole-emptied (λ gs. ledgers_begun) own c.begin.new.ledgers.items c.empty.new.incoming.items c.self.invariant c.begin.ensures c.empty.ensures
 
 pub returns : goal.returns
 returns c =
-    let own : Party = record { links = c.self.inside.station; ledgers = c.self.inside.ledgers.items; incoming = c.self.inside.incoming.items } in
+    let own : Party = record { station = c.self.inside.station; ledgers = c.self.inside.ledgers.items; incoming = c.self.inside.incoming.items } in
     rw (← c.self.view_is) (begun-emptied own c.begin.new.ledgers.items c.empty.new.incoming.items c.self.invariant c.begin.ensures c.empty.ensures)

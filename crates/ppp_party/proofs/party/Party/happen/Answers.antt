@@ -1,43 +1,44 @@
-use Rattle.std.proofs.Common.{◌≡◌, ◌∙◌, ◌-◌, ◌+◌, ◌≤◌, ap, arith, length, set, subst, sym}
+use Rattle.std.proofs.Common.{◌≡◌, ◌∙◌, ◌+◌, ◌≤◌, ap, arith, length, subst, sym}
 use Rattle.std.specs.Prelude.{OnOk}
-use Rattle.ppp_station.specs.Station.{on_link}
+use Rattle.ppp_station.specs.Station.{Station, on_link}
 use Rattle.ppp_station.specs.StationOut.{Out}
 use Rattle.ppp_station.specs.declared.station_out.TheConstants.{MOST_ENTRIES}
+use Rattle.ppp_station.proofs.MovesLemmas.{counts}
 use Rattle.ppp_party.specs.Counted.{AreCounted}
 use Rattle.ppp_party.specs.Happening.{happening_seen}
 use Rattle.ppp_party.specs.Party.{Ends, Party, happens}
-use Rattle.ppp_party.proofs.DoneLemmas.{happened, whole-ledgers}
-use Rattle.ppp_party.proofs.PartyLemmas.{happens-counted, on_link-length}
+use Rattle.ppp_party.proofs.DoneLemmas.{happened, linked-here, whole-posted}
+use Rattle.ppp_party.proofs.PartyLemmas.{happens-counted}
 use Rattle.ppp_party.proofs.ResultLemmas.{on_ok_both, on_ok_map}
 use Rattle.ppp_party.proofs.party.Party.happen.Goals as goal
 
-abbrev own_seen : goal.After-other-1 → Party
-own_seen c = record { links = c.self.inside.station; ledgers = c.self.inside.ledgers.items; incoming = c.self.inside.incoming.items }
+pub post-requires-clause-linked : goal.post-requires-clause-linked
+post-requires-clause-linked c =
+    let own : Party = record { station = c.self.inside.station; ledgers = c.self.inside.ledgers.items; incoming = c.self.inside.incoming.items } in
+    linked-here (happening_seen c.args.what) c.args.link c.args.word own c.happen_at.new.station c.happen_at.new.out.entries c.self.invariant c.happen_at.ensures.station c.happen_at.ensures.linked
 
-abbrev other_seen : goal.After-other-1 → Party
-other_seen c = record { links = c.other.inside.station; ledgers = c.other.inside.ledgers.items; incoming = c.other.inside.incoming.items }
+abbrev own_seen : goal.After-desk-1 → Party
+own_seen c = record { station = c.self.inside.station; ledgers = c.self.inside.ledgers.items; incoming = c.self.inside.incoming.items }
 
-abbrev after_own : goal.After-other-1 → Party
-after_own c = record { links = c.happen_at.new.station; ledgers = set c.self.inside.ledgers.items (c.from-i.result - 1) c.post.new.ledgers; incoming = c.self.inside.incoming.items }
+abbrev other_seen : goal.After-desk-1 → Party
+other_seen c = record { station = c.other.inside.station; ledgers = c.other.inside.ledgers.items; incoming = c.other.inside.incoming.items }
 
-abbrev after_other : goal.After-other-1 → Party
-after_other c = record { links = c.other.inside.station; ledgers = c.other.inside.ledgers.items; incoming = set c.other.inside.incoming.items (c.from-i.result - 1) c.post.new.queue }
+abbrev after_own : goal.After-desk-1 → Party
+after_own c = record { station = c.happen_at.new.station; ledgers = c.post.new.ledgers.items; incoming = c.self.inside.incoming.items }
 
-done : (c : goal.After-other-1) → OnOk c.post.result (record { own = after_own c; other = after_other c } ≡ happens (happening_seen c.args.what) c.args.link c.args.word (record { own = own_seen c; other = other_seen c }))
+abbrev after_other : goal.After-desk-1 → Party
+after_other c = record { station = c.other.inside.station; ledgers = c.other.inside.ledgers.items; incoming = c.post.new.incoming.items }
+
+done : (c : goal.After-desk-1) → OnOk c.post.result (record { own = after_own c; other = after_other c } ≡ happens (happening_seen c.args.what) c.args.link c.args.word (record { own = own_seen c; other = other_seen c }))
 done c =
-    let high = c.requires.link.1 in
-    let alike = c.requires.alike in
-    let own = ap (λ (p : Party). length p.links) c.self.view_is in
-    let other = ap (λ (p : Party). length p.links) c.other.view_is in
-    on_ok_both c.post.result c.post.ensures.ledgers c.post.ensures.queue (λ noted longer.
-    happened (happening_seen c.args.what) c.args.link (c.from-i.result - 1) c.args.word (own_seen c) (other_seen c) c.happen_at.new.station c.happen_at.new.out c.index_mut.result.now c.post.new.ledgers c.index_mut-2.result.now c.post.new.queue
-    (ap (λ n. n - 1) c.from-i.ensures) c.requires.link.0 (omega (arith, high, own)) (omega (arith, alike, own, other)) c.self.invariant c.other.invariant
-    c.happen_at.ensures.links c.happen_at.ensures.out c.index_mut.ensures.value c.index_mut-2.ensures.value noted longer)
+    on_ok_both c.post.result c.post.ensures.ledgers c.post.ensures.incoming (λ notes sends.
+    happened (happening_seen c.args.what) c.args.link c.args.word (own_seen c) (other_seen c) c.happen_at.new.station c.happen_at.new.out c.post.new.ledgers.items c.post.new.incoming.items
+    c.happen_at.ensures.station c.happen_at.ensures.out notes sends)
 
 pub invariant_of-self : goal.invariant_of-self
 invariant_of-self c =
-    whole-ledgers (own_seen c) c.happen_at.new.station (c.from-i.result - 1) c.post.new.ledgers
-    (ap length c.happen_at.ensures.links ∙ on_link-length (happening_seen c.args.what) c.args.link c.args.word c.self.inside.station) c.self.invariant
+    whole-posted (own_seen c) c.happen_at.new.station c.post.new.ledgers.items
+    (ap (λ (st : Station). length st.links) c.happen_at.ensures.station ∙ counts (happening_seen c.args.what) c.args.link c.args.word c.self.inside.station) c.post.ensures.count c.self.invariant
 
 pub returns-clause-done : goal.returns-clause-done
 returns-clause-done c = rw (← c.self.view_is, ← c.other.view_is) (done c)

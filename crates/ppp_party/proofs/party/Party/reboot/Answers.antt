@@ -1,7 +1,7 @@
 use Rattle.std.proofs.Common.{◌≡◌, ◌^◌, subst, sym}
 use Rattle.std.specs.Prelude.{OnOk}
 use Rattle.ppp_party.specs.Counted.{AreCounted}
-use Rattle.ppp_party.specs.Downs.{AreShortDowns}
+use Rattle.ppp_party.specs.Downs.{AllShortDowns}
 use Rattle.ppp_party.specs.Party.{Ends, Party, reboots}
 use Rattle.ppp_party.proofs.DoneLemmas.{rebooted}
 use Rattle.ppp_party.proofs.PartyLemmas.{cleared-counted, reboots-counted}
@@ -9,12 +9,12 @@ use Rattle.ppp_party.proofs.ResultLemmas.{on_ok_map}
 use Rattle.ppp_party.proofs.party.Party.reboot.Goals as goal
 
 abbrev own_seen : goal.After-go_down → Party
-own_seen c = record { links = c.self.inside.station; ledgers = c.self.inside.ledgers.items; incoming = c.self.inside.incoming.items }
+own_seen c = record { station = c.self.inside.station; ledgers = c.self.inside.ledgers.items; incoming = c.self.inside.incoming.items }
 
 done : (c : goal.After-go_down) → OnOk c.go_down.result (record { own = c.go_down.new.other; other = c.go_down.new.self } ≡ reboots c.args.word (record { own = own_seen c; other = c.args.other.now }))
 done c =
     on_ok_map c.go_down.result c.go_down.ensures.done (λ is.
-    rebooted c.args.word (own_seen c) c.args.other.now c.clear.new.self c.begin.new.self c.go_down.new.other c.go_down.new.self c.event.new.self c.event.ensures.links c.begin.ensures c.clear.ensures is)
+    rebooted c.args.word (own_seen c) c.args.other.now c.clear.new.self c.begin.new.self c.go_down.new.other c.go_down.new.self c.event.new.self c.event.ensures.station c.begin.ensures c.clear.ensures is)
 
 pub go_down-requires-clause-few : goal.go_down-requires-clause-few
 go_down-requires-clause-few c = subst (λ p. AreCounted (2 ^ 61) p) (sym c.clear.ensures) (cleared-counted (2 ^ 61) c.args.other.now c.requires.few)
@@ -31,4 +31,4 @@ pub returns-clause-others : goal.returns-clause-others
 returns-clause-others c n all = c.go_down.ensures.counted n (subst (λ p. AreCounted n p) (sym c.clear.ensures) (cleared-counted n c.args.other.now all))
 
 pub returns-clause-short : goal.returns-clause-short
-returns-clause-short c = on_ok_map c.go_down.result c.go_down.ensures.short (λ short. subst (λ (p : Party). AreShortDowns c.args.word p.links) c.clear.ensures short)
+returns-clause-short c = on_ok_map c.go_down.result c.go_down.ensures.short (λ short. subst (λ (p : Party). AllShortDowns c.args.word p.station) c.clear.ensures short)

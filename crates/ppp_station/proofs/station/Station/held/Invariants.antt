@@ -6,5 +6,5 @@ use Rattle.ppp_station.proofs.station.Station.held.Given as goal
 abbrev pub invariant-loop-i : goal.invariant-loop-i
 invariant-loop-i l = record {
   most : l.held ≤ l.i * MOST_FRAME;
-  left : l.held + held_in (drop l.i l.self) ≡ held_in l.self;
+  left : l.held + held_in (drop l.i l.self.links) ≡ held_in l.self.links;
 }

@@ -1,18 +1,9 @@
-use Rattle.std.proofs.Common.{◌++◌, ◌∷◌, [], add-one, ap, arith, length-set, ◌∙◌}
-use Rattle.ppp_packet.specs.declared.proto.Proto.TheVariants.{Bacp}
-use Rattle.ppp_link.specs.Link.{Link, link_begun}
-use Rattle.ppp_link.specs.Proto.{nets}
-use Rattle.ppp_station.specs.Station.{link_ready, opens_all}
-use Rattle.ppp_station.proofs.StationLemmas.{reset-next}
+use Rattle.std.proofs.Common.{sym, subst}
+use Rattle.ppp_station.specs.Phases.{IsStation}
+use Rattle.ppp_station.proofs.StationPhaseLemmas.{begun-anew, begun-station}
 use Rattle.ppp_station.proofs.station.Station.reset.Goals as goal
 
-pub loop-i-preserved : goal.loop-i-preserved
-loop-i-preserved c =
-    let ready = c.open_all.ensures ∙ ap (opens_all (nets ++ Bacp ∷ [])) (c.reset.ensures ∙ ap (λ (k : Link). link_begun k.tables) c.index_mut-link.ensures.value) in
-    record {
-      same = length-set c.loop-i.self-inside.links.items c.loop-i.i c.open_all.new.link ∙ c.loop-i.invariant.same;
-      left = rw add-one (
-          reset-next (λ (k : Link). link_ready k.tables) c.self.inside.links.items c.loop-i.self-inside.links.items c.loop-i.i _ c.open_all.new.link
-          (omega (arith, c.loop-i-test.true, c.loop-i.invariant.same, c.len-i-end.ensures, c.self.inside.links.ok.0)) c.loop-i.invariant.left ready
-          );
-    }
+pub invariant_of-self : goal.invariant_of-self
+invariant_of-self c =
+    subst IsStation (λ i. record { links = sym c.reset_links.ensures i; bundles = sym c.reset.ensures i })
+    (begun-station _ (begun-anew (record { links = c.self.inside.links.items; bundles = c.self.inside.bundles }) c.self.invariant))

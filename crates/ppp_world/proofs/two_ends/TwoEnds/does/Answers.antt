@@ -1,6 +1,6 @@
 use Rattle.std.proofs.Common.{◌≡◌, arith}
 use Rattle.ppp_script.specs.declared.end.End.TheVariants.{A, B}
-use Rattle.ppp_world.proofs.CountedLemmas.{anew-counted, taken-are-short, own-counted, still-counted, happens-still, delivers-still, loses-still}
+use Rattle.ppp_world.proofs.CountedLemmas.{anew-counted, taken-are-short, ok-always, own-counted, still-counted, happens-still, delivers-still, loses-still}
 use Rattle.ppp_world.proofs.two_ends.TwoEnds.does.Goals as goal
 
 pub returns-in-Happens-A-default-default-clause-counted_a : goal.returns-in-Happens-A-default-default-clause-counted_a
@@ -24,7 +24,7 @@ returns-in-Happens-B-default-default-clause-counted_b c =
 pub returns-in-Delivers-A-default-clause-short : goal.returns-in-Delivers-A-default-clause-short
 returns-in-Delivers-A-default-clause-short c =
     let here : c.in-Delivers-A-default.field-0 ≡ A = cc in
-    rw (c.in-Delivers-A-default.is, ← c.self.view_is, here) (taken-are-short _ _ c.self.inside.a (rw c.word_at-in-Delivers-A-default.ensures at c.deliver.ensures.short))
+    rw (c.in-Delivers-A-default.is, ← c.self.view_is, here) (ok-always c.deliver.result _ (taken-are-short _ _ c.self.inside.a (rw c.word_at-in-Delivers-A-default.ensures at c.deliver.ensures.short)))
 
 pub returns-in-Delivers-A-default-clause-counted_a : goal.returns-in-Delivers-A-default-clause-counted_a
 returns-in-Delivers-A-default-clause-counted_a c =
@@ -37,7 +37,7 @@ returns-in-Delivers-A-default-clause-counted_b c =
 pub returns-in-Delivers-B-default-clause-short : goal.returns-in-Delivers-B-default-clause-short
 returns-in-Delivers-B-default-clause-short c =
     let here : c.in-Delivers-B-default.field-0 ≡ B = cc in
-    rw (c.in-Delivers-B-default.is, ← c.self.view_is, here) (taken-are-short _ _ c.self.inside.b (rw c.word_at-in-Delivers-B-default.ensures at c.deliver-in-Delivers-B-default.ensures.short))
+    rw (c.in-Delivers-B-default.is, ← c.self.view_is, here) (ok-always c.deliver-in-Delivers-B-default.result _ (taken-are-short _ _ c.self.inside.b (rw c.word_at-in-Delivers-B-default.ensures at c.deliver-in-Delivers-B-default.ensures.short)))
 
 pub returns-in-Delivers-B-default-clause-counted_a : goal.returns-in-Delivers-B-default-clause-counted_a
 returns-in-Delivers-B-default-clause-counted_a c =

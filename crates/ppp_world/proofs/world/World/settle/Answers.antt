@@ -7,4 +7,4 @@ loop-i-init c = settles_first c.args.count c.args.self.now
 
 pub loop-i-preserved : goal.loop-i-preserved
 loop-i-preserved c =
-    settles_next c.args.count c.loop-i.i c.args.self.now c.loop-i.self c.deliver_next.new.self (omega (arith, c.loop-i-test.true)) c.deliver_next.ensures.done c.deliver_next.ensures.halted c.deliver_next.ensures.steps c.deliver_next.ensures.right c.loop-i.invariant
+    settles_next c.args.count c.loop-i.i c.args.self.now c.loop-i.self c.deliver_next.new.self (omega (arith, c.loop-i-test.true)) c.deliver_next.ensures.done c.deliver_next.ensures.halted c.deliver_next.ensures.steps c.deliver_next.ensures.later c.deliver_next.ensures.right c.loop-i.invariant

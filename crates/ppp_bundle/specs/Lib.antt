@@ -1,0 +1,4 @@
+pub mod BundleTable
+pub mod Bundles
+pub mod JoinKey
+pub mod Joining
