@@ -1,0 +1,14 @@
+pub mod Answering
+pub mod Asking
+pub mod Bap
+pub mod BapOption
+pub mod BapOut
+pub mod BapPacket
+pub mod BundleView
+pub mod LinkSet
+pub mod LinkType
+pub mod PacketType
+pub mod PhoneDelta
+pub mod Requests
+pub mod ResponseCode
+pub mod Step
