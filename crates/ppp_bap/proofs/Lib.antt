@@ -1,1 +1,2 @@
+pub mod BapPacketLemmas
 pub mod LinkSetLemmas

@@ -1,11 +1,10 @@
 -- What an end answers to its peer's requests (after RFC 2125).
-use Rattle.std.specs.Prelude.{ℕ, Bool, true, false, not, ◌&&◌, if◌then◌else◌, List, [], ◌∷◌, Option, Some, None, ⊤}
+use Rattle.std.specs.Prelude.{ℕ, Bool, true, false, ◌&&◌, if◌then◌else◌, List, [], ◌∷◌, Option, Some, None, ⊤}
 use Rattle.ppp_bap.specs.BapOut.{Entry, Send, Mark, Dial}
 use Rattle.ppp_bap.specs.BapPacket.{bap_octets}
 use Rattle.ppp_bap.specs.BundleView.{is_idle, is_last, joined_count, link_numbered, spare_link}
 use Rattle.ppp_bap.specs.declared.answer.Answer.{Answer}
 use Rattle.ppp_bap.specs.declared.answer.Answer.TheVariants as says
-use Rattle.ppp_bap.specs.declared.bap_packet.BapPacket.{BapPacket}
 use Rattle.ppp_bap.specs.declared.bap_packet.Message.TheVariants as message
 use Rattle.ppp_bap.specs.declared.bap_packet.Offer.{Offer}
 use Rattle.ppp_bap.specs.declared.bap_packet.Request.{Request}

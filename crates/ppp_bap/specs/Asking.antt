@@ -1,5 +1,5 @@
 -- When an end may ask, and what it sends (after RFC 2125).
-use Rattle.std.specs.Prelude.{ℕ, ◌≤◌, ⊤, Bool, if◌then◌else◌, not, Option, Some, None, Result, Ok, Err}
+use Rattle.std.specs.Prelude.{ℕ, ◌≤◌, ⊤, if◌then◌else◌, not, Option, Some, None, Result, Ok, Err}
 use Rattle.ppp_bap.specs.BundleView.{is_joined, is_last, is_marked, joined_count, peer_number, spare_link, staying_count}
 use Rattle.ppp_bap.specs.Requests.{Requests, is_waiting}
 use Rattle.ppp_bap.specs.declared.ask_refused.AskRefused.{AskRefused}

@@ -9,6 +9,7 @@ pub mod LinkSet
 pub mod LinkType
 pub mod PacketType
 pub mod PhoneDelta
+pub mod ReadAgain
 pub mod Requests
 pub mod ResponseCode
 pub mod Step

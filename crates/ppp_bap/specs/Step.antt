@@ -1,5 +1,5 @@
 -- One step of an end's BAP (after RFC 2125): the requests that wait then, and what is sent and told.
-use Rattle.std.specs.Prelude.{◌≡◌, ℕ, ◌+◌, Bool, ◌&&◌, nat_lt, if◌then◌else◌, List, [], ◌∷◌, Option, Some, None, ⊤}
+use Rattle.std.specs.Prelude.{◌≡◌, ℕ, ◌+◌, Bool, ◌&&◌, nat_lt, if◌then◌else◌, List, [], ◌∷◌, Option, Some, None}
 use Rattle.ppp_bap.specs.Answering.{IfAsked, answer_to, answers_with, policy_asked, response_to}
 use Rattle.ppp_bap.specs.BapOut.{Entry, Send, CloseLink, Dial}
 use Rattle.ppp_bap.specs.BapPacket.{bap_octets, packet_of}

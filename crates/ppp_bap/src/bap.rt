@@ -153,10 +153,8 @@ impl<F: Policy> Bap<F> {
             return;
         }
         self.waits[usize::from(bundle)] = Some(Waiting {
-            id: waiting.id,
-            ask: waiting.ask,
-            request: waiting.request,
             sent: waiting.sent + 1,
+            ..waiting
         });
         out.send(BapPacket {
             id: waiting.id,
@@ -233,10 +231,11 @@ impl<F: Policy> Bap<F> {
             (spec.wait_of view.now.bundle self.old.requests) self.old.requests).out }
         ensures policy { self.new.policy ≡ self.old.policy }
     {
-        if let Some(waiting) = self.waits[usize::from(view.bundle)]
+        let bundle = usize::from(view.bundle);
+        if let Some(waiting) = self.waits[bundle]
             && waiting.is_answered_by(id, response)
         {
-            self.reset(view.bundle);
+            self.waits[bundle] = None;
             follow(waiting.ask, response, view, out);
         }
     }

@@ -151,7 +151,10 @@ fn put_packet(octets: &mut ArrayVec<u8, MOST_PACKET>, packet: BapPacket)
     let code = message.code();
     let size = PACKET_HEADER + usize::from(code.is_some()) + options.octets().len();
     let [high, low] = octets_u16(size as u16);
-    put(octets, &[message.packet_type().number(), packet.id, high, low]);
+    put(
+        octets,
+        &[message.packet_type().number(), packet.id, high, low],
+    );
     if let Some(code) = code {
         put(octets, &[code.number()]);
     }

@@ -116,7 +116,11 @@ impl Message {
                 put_phone_delta(&mut options, Some(*link));
             }
             Message::StatusIndication(status, action) => {
-                put_option(&mut options, BapOption::CallStatus.number(), &[*status, *action]);
+                put_option(
+                    &mut options,
+                    BapOption::CallStatus.number(),
+                    &[*status, *action],
+                );
             }
             Message::Response(_) | Message::StatusResponse(_) => {}
         }
@@ -130,7 +134,11 @@ fn put_offer(options: &mut OptList, offer: Offer)
     ensures { options.new ≡ offer_option offer ∷ [] }
 {
     let [high, low] = octets_u16(offer.speed);
-    put_option(options, BapOption::LinkType.number(), &[high, low, offer.kind.bits()]);
+    put_option(
+        options,
+        BapOption::LinkType.number(),
+        &[high, low, offer.kind.bits()],
+    );
 }
 
 /// Puts a Phone-Delta behind others: one that names a link, or an empty one.
@@ -150,7 +158,11 @@ fn put_number(options: &mut OptList, number: u16)
     requires { options.old ≡ [] }
     ensures { options.new ≡ number_option number ∷ [] }
 {
-    put_option(options, BapOption::LinkDiscriminator.number(), &octets_u16(number));
+    put_option(
+        options,
+        BapOption::LinkDiscriminator.number(),
+        &octets_u16(number),
+    );
 }
 
 /// Reads a packet. None exactly where octets are none: the lengths don't fit, the Type isn't 1 to 8, a known option hasn't
@@ -176,7 +188,11 @@ fn read_message(packet_type: PacketType, octets: &[u8]) -> Option<Message>
         return asking(packet_type, &read_fit_options(octets)?);
     }
     let (code, behind) = octets.split_first()?;
-    answering(packet_type, ResponseCode::read(*code), &read_fit_options(behind)?)
+    answering(
+        packet_type,
+        ResponseCode::read(*code),
+        &read_fit_options(behind)?,
+    )
 }
 
 /// What a packet without a response code says.

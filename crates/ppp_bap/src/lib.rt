@@ -12,6 +12,7 @@ mod bap_out;
 mod bap_packet;
 mod bundle_view;
 mod call_ask;
+mod laws;
 mod link_set;
 mod link_type;
 mod packet_type;
@@ -26,5 +27,9 @@ pub use bap_ask::BapAsk;
 pub use bap_out::{BapEntry, BapOut, MOST_PACKET, SLOTS};
 pub use bundle_view::{BundleView, LINKS};
 pub use call_ask::CallAsk;
+pub use laws::read_again;
 pub use link_type::LinkType;
 pub use policy::Policy;
+
+#[cfg(test)]
+mod tests;

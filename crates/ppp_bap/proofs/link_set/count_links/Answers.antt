@@ -1,4 +1,4 @@
-use Rattle.std.proofs.Common.{◌≡◌, ◌∙◌, ◌+◌, sym, ap, take_all}
+use Rattle.std.proofs.Common.{◌∙◌, ◌+◌, sym, ap, take_all}
 use Rattle.std.proofs.lemmas.List.Sums.{count_by_more_no, count_by_more_yes}
 use Rattle.ppp_bap.specs.LinkSet.{count_links, has_link, link_numbers}
 use Rattle.ppp_bap.proofs.link_set.count_links.Goals as goal

@@ -1,4 +1,4 @@
-use Rattle.std.proofs.Common.{◌≡◌, ◌∙◌, suc, sym, add-one}
+use Rattle.std.proofs.Common.{◌∙◌, sym, add-one}
 use Rattle.std.proofs.lemmas.List.{drop_all}
 use Rattle.ppp_bap.specs.LinkSet.{has_link, least_link, link_numbers}
 use Rattle.ppp_bap.proofs.LinkSetLemmas.{find_here, find_further}

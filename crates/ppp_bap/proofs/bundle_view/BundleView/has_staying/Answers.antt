@@ -1,4 +1,4 @@
-use Rattle.std.proofs.Common.{◌≡◌, ◌∙◌, suc, sym, add-one}
+use Rattle.std.proofs.Common.{◌∙◌, sym, add-one}
 use Rattle.std.proofs.lemmas.List.{drop_all}
 use Rattle.ppp_bap.specs.BundleView.{stays_beside}
 use Rattle.ppp_bap.specs.LinkSet.{some_link, link_numbers}

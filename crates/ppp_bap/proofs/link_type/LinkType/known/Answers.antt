@@ -1,6 +1,5 @@
 use Rattle.bitflags.proofs.OnLiterals.{bitflags_on_literals}
-use Rattle.std.proofs.Common.{◌≡◌, ap}
-use Rattle.ppp_bap.specs.LinkType.{known_kinds}
+use Rattle.std.proofs.Common.{ap}
 use Rattle.ppp_bap.proofs.link_type.LinkType.known.Goals as goal
 
 pub returns : goal.returns
