@@ -1,2 +1,3 @@
 pub mod BapPacketLemmas
+pub mod BroughtLemmas
 pub mod LinkSetLemmas

@@ -4,6 +4,7 @@ pub mod Bap
 pub mod BapOption
 pub mod BapOut
 pub mod BapPacket
+pub mod Brought
 pub mod BundleView
 pub mod LinkSet
 pub mod LinkType

@@ -27,7 +27,7 @@ pub use bap_ask::BapAsk;
 pub use bap_out::{BapEntry, BapOut, MOST_PACKET, SLOTS};
 pub use bundle_view::{BundleView, LINKS};
 pub use call_ask::CallAsk;
-pub use laws::read_again;
+pub use laws::{brought, read_again};
 pub use link_type::LinkType;
 pub use policy::Policy;
 
