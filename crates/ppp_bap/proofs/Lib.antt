@@ -1,3 +1,5 @@
 pub mod BapPacketLemmas
-pub mod BroughtLemmas
+pub mod DueLemmas
+pub mod GrantLemmas
 pub mod LinkSetLemmas
+pub mod RequestsLemmas

@@ -12,7 +12,7 @@ use Rattle.ppp_bap.specs.ResponseCode.{code_number, read_code}
 use Rattle.ppp_bap.specs.declared.bap_option.BapOption.TheVariants.{LinkType, PhoneDelta, LinkDiscriminator, CallStatus}
 use Rattle.ppp_bap.specs.declared.bap_packet.BapPacket.{BapPacket}
 use Rattle.ppp_bap.specs.declared.bap_packet.Message.{Message}
-use Rattle.ppp_bap.specs.declared.bap_packet.Message.TheVariants as says
+use Rattle.ppp_bap.specs.declared.bap_packet.Message.TheVariants as message
 use Rattle.ppp_bap.specs.declared.bap_packet.Offer.{Offer}
 use Rattle.ppp_bap.specs.declared.bap_packet.Request.TheVariants as asked
 use Rattle.ppp_bap.specs.declared.bap_packet.Response.TheVariants as answered
@@ -23,23 +23,23 @@ use Rattle.ppp_bap.specs.declared.response_code.ResponseCode.{ResponseCode}
 -- ---- writing
 
 abbrev pub type_of : Message → PacketType
-type_of (says.Request (asked.Call offer)) = CallRequest
-type_of (says.Request (asked.Callback offer link)) = CallbackRequest
-type_of (says.Request (asked.Drop number)) = DropRequest
-type_of (says.Response (answered.Call code link)) = CallResponse
-type_of (says.Response (answered.Callback code)) = CallbackResponse
-type_of (says.Response (answered.Drop code)) = DropResponse
-type_of (says.StatusIndication status action) = StatusIndication
-type_of (says.StatusResponse code) = StatusResponse
+type_of (message.Request (asked.Call offer)) = CallRequest
+type_of (message.Request (asked.Callback offer link)) = CallbackRequest
+type_of (message.Request (asked.Drop number)) = DropRequest
+type_of (message.Response (answered.Call code link)) = CallResponse
+type_of (message.Response (answered.Callback code)) = CallbackResponse
+type_of (message.Response (answered.Drop code)) = DropResponse
+type_of (message.StatusIndication status action) = StatusIndication
+type_of (message.StatusResponse code) = StatusResponse
 
 -- the response code, where there is one
 abbrev pub code_of : Message → Option ResponseCode
-code_of (says.Request request) = None
-code_of (says.Response (answered.Call code link)) = Some code
-code_of (says.Response (answered.Callback code)) = Some code
-code_of (says.Response (answered.Drop code)) = Some code
-code_of (says.StatusIndication status action) = None
-code_of (says.StatusResponse code) = Some code
+code_of (message.Request request) = None
+code_of (message.Response (answered.Call code link)) = Some code
+code_of (message.Response (answered.Callback code)) = Some code
+code_of (message.Response (answered.Drop code)) = Some code
+code_of (message.StatusIndication status action) = None
+code_of (message.StatusResponse code) = Some code
 
 abbrev pub offer_option : Offer → ConfigOption
 offer_option o = option_with (kind_number LinkType) (two_octets o.speed ++ o.kind.0 ∷ [])
@@ -52,15 +52,15 @@ abbrev pub number_option : ℕ → ConfigOption
 number_option number = option_with (kind_number LinkDiscriminator) (two_octets number)
 
 abbrev pub options_in : Message → List ConfigOption
-options_in (says.Request (asked.Call offer)) = offer_option offer ∷ []
-options_in (says.Request (asked.Callback offer link)) = offer_option offer ∷ delta_option link ∷ []
-options_in (says.Request (asked.Drop number)) = number_option number ∷ []
-options_in (says.Response (answered.Call code None)) = []
-options_in (says.Response (answered.Call code (Some link))) = delta_option (Some link) ∷ []
-options_in (says.Response (answered.Callback code)) = []
-options_in (says.Response (answered.Drop code)) = []
-options_in (says.StatusIndication status action) = option_with (kind_number CallStatus) (status ∷ action ∷ []) ∷ []
-options_in (says.StatusResponse code) = []
+options_in (message.Request (asked.Call offer)) = offer_option offer ∷ []
+options_in (message.Request (asked.Callback offer link)) = offer_option offer ∷ delta_option link ∷ []
+options_in (message.Request (asked.Drop number)) = number_option number ∷ []
+options_in (message.Response (answered.Call code None)) = []
+options_in (message.Response (answered.Call code (Some link))) = delta_option (Some link) ∷ []
+options_in (message.Response (answered.Callback code)) = []
+options_in (message.Response (answered.Drop code)) = []
+options_in (message.StatusIndication status action) = option_with (kind_number CallStatus) (status ∷ action ∷ []) ∷ []
+options_in (message.StatusResponse code) = []
 
 -- a packet is a Type, an Identifier, a Length, a response code in some Types, and options
 abbrev pub message_octets : Message → List ℕ
@@ -80,7 +80,7 @@ number_of (high ∷ low ∷ []) = Some (high * 256 + low)
 number_of body = None
 
 abbrev pub status_of : List ℕ → Option Message
-status_of (status ∷ action ∷ []) = Some (says.StatusIndication status action)
+status_of (status ∷ action ∷ []) = Some (message.StatusIndication status action)
 status_of body = None
 
 abbrev pub offer_in : List ConfigOption → Option Offer
@@ -97,24 +97,24 @@ link_in os = option_and_then link_named (find_kind (kind_number PhoneDelta) os)
 
 -- a Callback-Request has to have both options
 abbrev pub callback_by : Option Offer → Option (List ℕ) → Option Message
-callback_by (Some offer) (Some delta) = Some (says.Request (asked.Callback offer (link_named delta)))
+callback_by (Some offer) (Some delta) = Some (message.Request (asked.Callback offer (link_named delta)))
 callback_by offer delta = None
 
 abbrev pub callback_in : List ConfigOption → Option Message
 callback_in os = callback_by (offer_in os) (find_kind (kind_number PhoneDelta) os)
 
 abbrev pub asking : PacketType → List ConfigOption → Option Message
-asking CallRequest os = option_map (λ offer. says.Request (asked.Call offer)) (offer_in os)
+asking CallRequest os = option_map (λ offer. message.Request (asked.Call offer)) (offer_in os)
 asking CallbackRequest os = callback_in os
-asking DropRequest os = option_map (λ number. says.Request (asked.Drop number)) (number_in os)
+asking DropRequest os = option_map (λ number. message.Request (asked.Drop number)) (number_in os)
 asking StatusIndication os = status_in os
 asking t os = None
 
 abbrev pub answering : PacketType → ResponseCode → List ConfigOption → Option Message
-answering CallResponse code os = Some (says.Response (answered.Call code (link_in os)))
-answering CallbackResponse code os = Some (says.Response (answered.Callback code))
-answering DropResponse code os = Some (says.Response (answered.Drop code))
-answering StatusResponse code os = Some (says.StatusResponse code)
+answering CallResponse code os = Some (message.Response (answered.Call code (link_in os)))
+answering CallbackResponse code os = Some (message.Response (answered.Callback code))
+answering DropResponse code os = Some (message.Response (answered.Drop code))
+answering StatusResponse code os = Some (message.StatusResponse code)
 answering t code os = None
 
 -- behind the response code

@@ -31,8 +31,8 @@ abbrev pub has_staying : ℕ → BundleView → Bool
 has_staying l v = some_link (stays_beside l v)
 
 -- fewer stay than this end wants, or none
-abbrev pub is_last : ℕ → BundleView → Bool
-is_last l v = nat_lt (staying_count l v) (max 1 v.least)
+abbrev pub leaves_too_few : ℕ → BundleView → Bool
+leaves_too_few l v = nat_lt (staying_count l v) (max 1 v.least)
 
 -- the numbers of a link (RFC 2125, Link-Discriminators)
 abbrev pub own_number : ℕ → BundleView → Option ℕ

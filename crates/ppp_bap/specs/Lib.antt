@@ -1,11 +1,11 @@
-pub mod Answering
-pub mod Asking
+pub mod Answer
 pub mod Bap
 pub mod BapOption
 pub mod BapOut
 pub mod BapPacket
-pub mod Brought
 pub mod BundleView
+pub mod Due
+pub mod Grant
 pub mod LinkSet
 pub mod LinkType
 pub mod PacketType
@@ -14,3 +14,4 @@ pub mod ReadAgain
 pub mod Requests
 pub mod ResponseCode
 pub mod Step
+pub mod Wish

@@ -1,10 +1,15 @@
 -- Sets of links, as what says of each number whether it is in the set.
-use Rattle.std.specs.Prelude.{ℕ, ◌-◌, Bool, ◌&&◌, ◌==◌, nat_le, List, [], ◌∷◌, Option}
+use Rattle.std.specs.Prelude.{ℕ, ◌-◌, ◌≤◌, Bool, ◌&&◌, ◌==◌, nat_le, List, [], ◌∷◌, Option}
 use Rattle.std.specs.List.{count_by, find, list_any}
 use Rattle.std.specs.Int.{bit_at}
 
 abbrev pub link_numbers : List ℕ
 link_numbers = 1 ∷ 2 ∷ 3 ∷ 4 ∷ 5 ∷ 6 ∷ 7 ∷ 8 ∷ 9 ∷ 10 ∷ 11 ∷ 12 ∷ 13 ∷ 14 ∷ 15 ∷ 16 ∷ []
+
+-- the number of a link
+pub record IsLink (l : ℕ) : Type 0 where
+  pub least : 1 ≤ l
+  pub most : l ≤ 16
 
 -- a set of links as a number: its bit l - 1 stands for link l
 abbrev pub has_link : ℕ → ℕ → Bool

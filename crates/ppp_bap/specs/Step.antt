@@ -1,12 +1,11 @@
 -- One step of an end's BAP (after RFC 2125): the requests that wait then, and what is sent and told.
 use Rattle.std.specs.Prelude.{◌≡◌, ℕ, ◌+◌, Bool, ◌&&◌, nat_lt, if◌then◌else◌, List, [], ◌∷◌, Option, Some, None}
-use Rattle.ppp_bap.specs.Answering.{IfAsked, answer_to, answers_with, policy_asked, response_to}
+use Rattle.ppp_bap.specs.Answer.{IfAsked, answer_to, answers_with, policy_asked, response_to}
 use Rattle.ppp_bap.specs.BapOut.{Entry, Send, CloseLink, Dial}
 use Rattle.ppp_bap.specs.BapPacket.{bap_octets, packet_of}
 use Rattle.ppp_bap.specs.BundleView.{has_staying, is_idle}
 use Rattle.ppp_bap.specs.Requests.{Requests, asked_of, drawn, is_drop_of, is_response_to, is_waiting, wait_ended, wait_of, with_wait}
-use Rattle.ppp_bap.specs.declared.answer.Answer.TheVariants as says
-use Rattle.ppp_bap.specs.declared.bap.TheConstants.{MOST_TRIES}
+use Rattle.ppp_bap.specs.declared.answer.Answer.TheVariants as answer
 use Rattle.ppp_bap.specs.declared.bap_ask.BapAsk.{BapAsk}
 use Rattle.ppp_bap.specs.declared.bap_ask.BapAsk.TheVariants as ask
 use Rattle.ppp_bap.specs.declared.bap_packet.BapPacket.{BapPacket}
@@ -18,7 +17,7 @@ use Rattle.ppp_bap.specs.declared.bap_packet.Response.TheVariants as answered
 use Rattle.ppp_bap.specs.declared.bundle_view.BundleView.{BundleView}
 use Rattle.ppp_bap.specs.declared.call_ask.CallAsk.{CallAsk}
 use Rattle.ppp_bap.specs.declared.response_code.ResponseCode.TheVariants.{Ack}
-use Rattle.ppp_bap.specs.declared.waiting.Waiting.{Waiting}
+use Rattle.ppp_bap.specs.declared.wait.Wait.{Wait}
 
 pub record Step : Type 0 where
   pub requests : Requests
@@ -44,7 +43,7 @@ policy_asked_for v q request = if keeps_own v q then None else policy_asked v re
 abbrev pub takes_request : Bool → BundleView → ℕ → Request → Requests → Step
 takes_request allowed v id request q =
     if keeps_own v q
-    then record { requests = q; out = sends id (message.Response (response_to request says.Nak)) }
+    then record { requests = q; out = sends id (message.Response (response_to request answer.Nak)) }
     else record { requests = wait_ended v.bundle q; out = answers_with id request (answer_to allowed v request) }
 
 -- the policy says yes or no where it is asked, and the step is the one that follows
@@ -64,7 +63,7 @@ follows v (ask.Drop l) (answered.Drop Ack) = if has_staying l v then CloseLink l
 follows v what response = []
 
 -- It counts where its Type and Identifier are those of the request that waits, and ends the wait.
-abbrev pub takes_response : BundleView → ℕ → Response → Option Waiting → Requests → Step
+abbrev pub takes_response : BundleView → ℕ → Response → Option Wait → Requests → Step
 takes_response v id response None q = stays q
 takes_response v id response (Some w) q =
     if is_response_to w id response
@@ -115,10 +114,10 @@ tells_status status v q =
 -- ---- no response came
 
 -- two timeouts send a copy, the third ends the wait
-abbrev pub times_out : ℕ → Option Waiting → Requests → Step
+abbrev pub times_out : ℕ → Option Wait → Requests → Step
 times_out b None q = stays q
 times_out b (Some w) q =
-    if nat_lt w.sent MOST_TRIES
+    if nat_lt w.sent 3
     then record { requests = with_wait b (Some (record w { sent = w.sent + 1 })) q; out = sends w.id (message.Request w.request) }
     else stays (wait_ended b q)
 

@@ -23,7 +23,7 @@ pub enum AskRefused {
     /// The peer was promised already that the link to drop goes.
     #[error("link {0} is promised to the peer")]
     Promised(u8),
-    /// So few joined links would stay beside the link to drop that aren't promised.
+    /// Too few joined links that aren't promised would stay beside the link to drop: this many.
     #[error("{0} links would stay")]
     LastLink(u8),
 }

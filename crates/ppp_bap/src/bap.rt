@@ -1,30 +1,31 @@
 //! One end's BAP.
 
-ghost use Rattle.std.specs.Prelude.{◌≡◌, ◌<◌, [], IfOk, IsTrue, OnErr};
-ghost use Rattle.ppp_bap.specs.Answering.{policy_asked, IfAsked};
-ghost use Rattle.ppp_bap.specs.Asking.{request_for, told, IsOfLink};
+ghost use Rattle.std.specs.Prelude.{◌≡◌, ◌<◌, [], IfOk, IsTrue, OnErr, Some};
+ghost use Rattle.std.specs.Option.{IfSome};
+ghost use Rattle.ppp_bap.specs.Answer.{policy_asked, IfAsked};
+ghost use Rattle.ppp_bap.specs.Wish.{request_for, told};
 ghost use Rattle.ppp_bap.specs.Requests as spec;
+ghost use Rattle.ppp_bap.specs.Requests.{AreRequests, IsOfLink};
 ghost use Rattle.ppp_bap.specs.Step as step;
 ghost use Rattle.ppp_bap.specs.declared.bap.TheConstants.{BUNDLES};
 ghost use Rattle.ppp_bap.specs.declared.bap_packet.Message.TheVariants as message;
 
-use crate::answer::Answer;
-use crate::answering::{answer_to, policy_asked, put_answer, response_to};
+use crate::answer::{Answer, answer_to, policy_asked, put_answer, response_to};
 use crate::ask_refused::AskRefused;
-use crate::asking::wished;
 use crate::bap_ask::BapAsk;
 use crate::bap_out::BapOut;
 use crate::bap_packet::{BapPacket, Message, Request, Response, read_bap};
 use crate::bundle_view::BundleView;
 use crate::policy::Policy;
 use crate::response_code::ResponseCode;
-use crate::waiting::Waiting;
+use crate::wait::Wait;
+use crate::wish::wished;
 use std::marker::Model;
 
 /// How many bundles there are.
 pub const BUNDLES: usize = 8;
 
-/// How often a request is sent.
+/// How often a request is sent at most.
 pub const MOST_TRIES: u8 = 3;
 
 /// One end's BAP: the policy that decides over its peers' calls, and at most one request of each bundle that waits.
@@ -32,7 +33,7 @@ pub const MOST_TRIES: u8 = 3;
 pub struct Bap<F: Policy> {
     policy: F,
     next_id: u8,
-    waits: [Option<Waiting>; BUNDLES],
+    waits: [Option<Wait>; BUNDLES],
 }
 
 impl<F: Policy> Model for Bap<F> {
@@ -42,7 +43,9 @@ impl<F: Policy> Model for Bap<F> {
 
     ghost view = { λ b. record { policy = b.policy; requests = record { next_id = b.next_id; waits = b.waits } } };
 
-    ghost invariant = { λ b. F.may b.policy };
+    ghost use Rattle.ppp_bap.specs.Requests.{AreRequests};
+
+    ghost invariant = { λ b. F.may b.policy × AreRequests (record { next_id = b.next_id; waits = b.waits }) };
 }
 
 impl<F: Policy> Bap<F> {
@@ -76,11 +79,13 @@ impl<F: Policy> Bap<F> {
             (λ r. out.new ≡ step.sends self.old.requests.next_id (message.Request r)) }
         ensures kept { OnErr result (self.new ≡ self.old) }
         ensures left { OnErr result (out.new ≡ out.old) }
+        ensures asked { IfOk (request_for request view.now self.old.requests)
+            (λ r. spec.asked_of view.now.bundle self.new.requests ≡ Some request) }
         ensures policy { self.new.policy ≡ self.old.policy }
     {
         let wish = self.request_for(request, view)?;
         let id = self.draw();
-        self.waits[usize::from(view.bundle)] = Some(Waiting {
+        self.waits[usize::from(view.bundle)] = Some(Wait {
             id,
             ask: request,
             request: wish,
@@ -152,7 +157,7 @@ impl<F: Policy> Bap<F> {
             self.waits[usize::from(bundle)] = None;
             return;
         }
-        self.waits[usize::from(bundle)] = Some(Waiting {
+        self.waits[usize::from(bundle)] = Some(Wait {
             sent: waiting.sent + 1,
             ..waiting
         });
@@ -176,7 +181,9 @@ impl<F: Policy> Bap<F> {
     /// The request of a bundle, 0 to 7, that waits for its response.
     pub fn waiting(&self, bundle: u8) -> Option<BapAsk>
         requires { bundle < BUNDLES }
-        ensures { result ≡ spec.asked_of bundle self.now.requests }
+        ensures value { result ≡ spec.asked_of bundle self.now.requests }
+        ensures link { IfSome result IsOfLink }
+        ensures sound { AreRequests self.now.requests }
     {
         match self.waits[usize::from(bundle)] {
             Some(waiting) => Some(waiting.ask),
@@ -265,9 +272,10 @@ impl<F: Policy> Bap<F> {
         wished(request, view)
     }
 
-    /// The Identifier of the next packet.
+    /// The Identifier of the next request or indication.
     fn draw(&mut self) -> u8
         ensures id { result ≡ self.old.requests.next_id }
+        ensures fits { result < 256 }
         ensures requests { self.new.requests ≡ spec.drawn self.old.requests }
         ensures policy { self.new.policy ≡ self.old.policy }
     {

@@ -14,7 +14,7 @@ use ppp_packet::{OptList, OptRef, Options, read_options};
 pub(crate) enum BapOption {
     /// Type 1, Link-Type: the speed in kbit/s, and the kinds of link.
     LinkType,
-    /// Type 2, Phone-Delta: what part of a telephone number is another.
+    /// Type 2, Phone-Delta: which digits of a telephone number differ from another's.
     PhoneDelta,
     /// Type 3, No-Phone-Number-Needed.
     NoPhoneNumber,

@@ -135,12 +135,6 @@ impl BapOut {
     }
 }
 
-impl Default for BapOut {
-    fn default() -> BapOut {
-        BapOut::new()
-    }
-}
-
 /// Puts the octets of a packet where there are none.
 fn put_packet(octets: &mut ArrayVec<u8, MOST_PACKET>, packet: BapPacket)
     requires { octets.old.items ≡ [] }

@@ -11,11 +11,12 @@ use crate::packet_type::PacketType;
 use crate::phone_delta::{link_named, phone_delta};
 use crate::response_code::ResponseCode;
 use bitflags::Flags;
+use byteorder::{BigEndian, ByteOrder};
 use ppp_options::{first_of, octets_u16};
 use ppp_packet::{OptList, Options, read_packet};
 
-/// The most octets of options before a Phone-Delta.
-const MOST_BEFORE: usize = 100;
+/// The most octets of options before a Phone-Delta: those of a Link-Type.
+const MOST_BEFORE: usize = 5;
 
 /// What link an end offers (RFC 2125, the Link-Type option).
 #[derive(Clone, Copy, Debug, PartialEq, Eq)]
@@ -237,8 +238,8 @@ fn read_offer(body: &[u8]) -> Option<Offer>
     ensures { result ≡ offer_of body.now }
 {
     match body {
-        [high, low, bits] => Some(Offer {
-            speed: u16::from_be_bytes([*high, *low]),
+        [_, _, bits] => Some(Offer {
+            speed: BigEndian::read_u16(&body[..2]),
             kind: LinkType::known(*bits),
         }),
         _ => None,
@@ -249,8 +250,9 @@ fn read_offer(body: &[u8]) -> Option<Offer>
 fn number_in(options: &Options<'_>) -> Option<u16>
     ensures { result ≡ number_in options.now }
 {
-    match first_of(options, BapOption::LinkDiscriminator.number())? {
-        [high, low] => Some(u16::from_be_bytes([*high, *low])),
+    let body = first_of(options, BapOption::LinkDiscriminator.number())?;
+    match body {
+        [_, _] => Some(BigEndian::read_u16(body)),
         _ => None,
     }
 }

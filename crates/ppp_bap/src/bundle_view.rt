@@ -1,7 +1,7 @@
 //! A bundle as BAP sees it.
 
-ghost use Rattle.std.specs.Prelude.{◌≡◌, ◌≤◌, ◌-◌, slice_index_or, None};
-ghost use Rattle.ppp_bap.specs.declared.bundle_view.TheConstants.{LINKS};
+ghost use Rattle.std.specs.Prelude.{◌≡◌, ◌-◌, slice_index_or, None};
+ghost use Rattle.ppp_bap.specs.LinkSet.{IsLink};
 
 use crate::link_set::{LINK_NUMBERS, count_links, has_link, least_link};
 
@@ -40,7 +40,7 @@ pub struct BundleView {
 }
 
 impl BundleView {
-    ghost use Rattle.ppp_bap.specs.BundleView.{has_staying, is_idle, is_joined, is_joined_as, is_last, is_marked, joined_count, link_numbered, spare_link, staying_count, stays_beside};
+    ghost use Rattle.ppp_bap.specs.BundleView.{has_staying, is_idle, is_joined, is_joined_as, leaves_too_few, is_marked, joined_count, link_numbered, spare_link, staying_count, stays_beside};
 
     /// How many links are joined.
     pub(crate) fn joined_count(&self) -> u8
@@ -112,9 +112,9 @@ impl BundleView {
         false
     }
 
-    /// Whether fewer links stay beside one than this end wants, or none.
-    pub(crate) fn is_last(&self, link: u8) -> bool
-        ensures { result ≡ is_last link self.now }
+    /// Whether fewer links stay beside one than this end wants at least, or none.
+    pub(crate) fn leaves_too_few(&self, link: u8) -> bool
+        ensures { result ≡ leaves_too_few link self.now }
     {
         self.staying_count(link) < self.least.max(1)
     }
@@ -141,8 +141,7 @@ impl BundleView {
 
 /// The number that a link, 1 to 16, was given.
 pub(crate) fn number_at(numbers: &[Option<u16>; LINKS], link: u8) -> Option<u16>
-    requires least { 1 ≤ link }
-    requires most { link ≤ LINKS }
+    requires { IsLink link }
     ensures { result ≡ slice_index_or numbers.now (link - 1) None }
 {
     numbers[usize::from(link) - 1]

@@ -1,6 +1,6 @@
 //! Kinds of links (RFC 2125, the Link-Type option).
 
-ghost use Rattle.std.specs.Prelude.{◌≡◌, ⊤, [], ◌∷◌, codes};
+ghost use Rattle.std.specs.Prelude.{◌≡◌, ⊤};
 
 use bitflags::{Flag, Flags, bitflag_items};
 
@@ -34,7 +34,9 @@ impl Flags for LinkType {
 
     ghost exact = { ⊤ };
 
-    ghost table = { (codes "ISDN", 1) ∷ (codes "X25", 2) ∷ (codes "ANALOG", 4) ∷ (codes "SWITCHED", 8) ∷ (codes "VOICE", 16) ∷ [] };
+    ghost use Rattle.ppp_bap.specs.LinkType.{kinds};
+
+    ghost table = { kinds };
 
     ghost set_of = { λ kinds. kinds.0 };
 

@@ -2,8 +2,8 @@
 
 ghost use Rattle.std.specs.Prelude.{◌≡◌, ◌≤◌, length};
 ghost use Rattle.ppp_packet.specs.Options.{written};
-ghost use Rattle.ppp_bap.specs.PhoneDelta.{is_text_of, link_named, link_of_text, link_text, phone_delta};
-ghost use Rattle.ppp_bap.specs.declared.phone_delta.TheConstants.{MOST_DELTA, SUBSCRIBER_NUMBER, UNIQUE_DIGITS};
+ghost use Rattle.ppp_bap.specs.PhoneDelta.{is_text_of, link_named, link_of_text, link_text, phone_delta, sub_kind};
+ghost use Rattle.ppp_bap.specs.declared.phone_delta.TheConstants.{MOST_DELTA};
 
 use crate::bap_option::put_option;
 use crate::link_set::LINK_NUMBERS;
@@ -11,11 +11,26 @@ use arrayvec::ArrayVec;
 use ppp_options::first_of;
 use ppp_packet::{OptList, read_options};
 
-/// The Type of a sub-option: how many digits of a number differ from another (RFC 2125, Unique-Digits).
-const UNIQUE_DIGITS: u8 = 1;
+/// The Type of a sub-option (RFC 2125, Phone-Delta).
+#[derive(Clone, Copy, Debug, PartialEq, Eq)]
+enum SubOption {
+    /// Type 1, Unique-Digits: how many digits of a number differ from another's.
+    UniqueDigits,
+    /// Type 2, Subscriber-Number: the digits themselves.
+    SubscriberNumber,
+}
 
-/// The Type of a sub-option: the digits themselves (RFC 2125, Subscriber-Number).
-const SUBSCRIBER_NUMBER: u8 = 2;
+impl SubOption {
+    /// The Type's number.
+    const fn number(self) -> u8
+        ensures { result ≡ sub_kind self }
+    {
+        match self {
+            SubOption::UniqueDigits => 1,
+            SubOption::SubscriberNumber => 2,
+        }
+    }
+}
 
 /// The most octets of such sub-options.
 const MOST_DELTA: usize = 7;
@@ -27,8 +42,16 @@ pub(crate) fn phone_delta(link: u8) -> OptList
 {
     let digits = link_text(link);
     let mut parts = OptList::new();
-    put_option(&mut parts, UNIQUE_DIGITS, &[digits.len() as u8]);
-    put_option(&mut parts, SUBSCRIBER_NUMBER, digits.as_slice());
+    put_option(
+        &mut parts,
+        SubOption::UniqueDigits.number(),
+        &[digits.len() as u8],
+    );
+    put_option(
+        &mut parts,
+        SubOption::SubscriberNumber.number(),
+        digits.as_slice(),
+    );
     parts
 }
 
@@ -37,7 +60,7 @@ pub(crate) fn link_named(body: &[u8]) -> Option<u8>
     ensures { result ≡ link_named body.now }
 {
     let parts = read_options(body)?;
-    let digits = first_of(&parts, SUBSCRIBER_NUMBER)?;
+    let digits = first_of(&parts, SubOption::SubscriberNumber.number())?;
     link_of_text(digits)
 }
 

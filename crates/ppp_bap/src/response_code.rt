@@ -5,7 +5,7 @@ ghost use Rattle.ppp_bap.specs.ResponseCode.{code_number, read_code};
 
 /// What a response says (RFC 2125, response codes).
 #[derive(Clone, Copy, Debug, PartialEq, Eq)]
-pub enum ResponseCode {
+pub(crate) enum ResponseCode {
     /// Code 0, Request-Ack: it is granted.
     Ack,
     /// Code 1, Request-Nak: not now.

@@ -266,6 +266,29 @@ fn requests_are_asked_and_answered(rt: HostRuntime) -> Result<(), Fail> {
     Ok(())
 }
 
+/// A favoured end keeps its own request; identifiers go from 255 to 0.
+#[test]
+fn a_favoured_end_keeps_its_own(rt: HostRuntime) -> Result<(), Fail> {
+    let text = behind(rt.alloc(), Some(BapAsk::Call), DROP)?;
+    assert_eq!(rt;
+        text.as_str(),
+        "send 010100090105004001; waits Call; send 0601000501; waits Call; "
+    );
+    let mut steps = Vec::new(rt.alloc());
+    for _ in 0..254 {
+        steps.push(Step::Ask(BapAsk::Call))?;
+        steps.push(Step::Ends)?;
+    }
+    steps.push(Step::Status(0))?;
+    steps.push(Step::Status(0))?;
+    let text = run(rt.alloc(), true, &two(), steps.as_slice())?;
+    assert!(rt;
+        text.as_str()
+            .ends_with("send 07ff000806040000; send 0700000806040000; ")
+    );
+    Ok(())
+}
+
 /// What a packet makes at a favoured end that asked, if it did.
 fn behind(alloc: Global, asked: Option<BapAsk>, packet: &[u8]) -> Result<String, Fail> {
     let mut view = two();
@@ -293,7 +316,17 @@ fn with_octet(alloc: Global, octets: &[u8], at: usize, octet: u8) -> Result<Vec<
 /// Each Length octet of each packet of a drop and of a call set to another number: the packet is discarded.
 #[test]
 fn wrong_lengths_are_discarded(rt: HostRuntime) -> Result<(), Fail> {
-    let cases: [(Option<BapAsk>, &[u8], &[usize]); 6] = [
+    let cases: [(Option<BapAsk>, &[u8], &[usize]); 12] = [
+        (None, &[5, 1, 0, 8, 5, 4, 0, 21], &[2, 3, 5]),
+        (None, &[5, 1, 0, 8, 5, 4, 0, 10], &[2, 3, 5]),
+        (Some(BapAsk::Call), &[2, 1, 0, 5, 1], &[2, 3]),
+        (Some(BapAsk::Call), &[2, 1, 0, 5, 2], &[2, 3]),
+        (Some(BapAsk::Call), &[2, 1, 0, 5, 3], &[2, 3]),
+        (
+            Some(BapAsk::Call),
+            &[2, 1, 0, 13, 0, 2, 8, 1, 3, 1, 2, 3, 0x32],
+            &[2, 3, 6, 8, 11],
+        ),
         (None, DROP, &[2, 3, 5]),
         (Some(BapAsk::Drop(2)), &[6, 1, 0, 5, 0], &[2, 3]),
         (Some(BapAsk::Drop(2)), &[6, 1, 0, 5, 1], &[2, 3]),

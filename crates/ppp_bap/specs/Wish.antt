@@ -1,6 +1,6 @@
 -- When an end may ask, and what it sends (after RFC 2125).
-use Rattle.std.specs.Prelude.{ℕ, ◌≤◌, ⊤, if◌then◌else◌, not, Option, Some, None, Result, Ok, Err}
-use Rattle.ppp_bap.specs.BundleView.{is_joined, is_last, is_marked, joined_count, peer_number, spare_link, staying_count}
+use Rattle.std.specs.Prelude.{ℕ, ⊤, if◌then◌else◌, not, Option, Some, None, Result, Ok, Err}
+use Rattle.ppp_bap.specs.BundleView.{is_joined, leaves_too_few, is_marked, joined_count, peer_number, spare_link, staying_count}
 use Rattle.ppp_bap.specs.Requests.{Requests, is_waiting}
 use Rattle.ppp_bap.specs.declared.ask_refused.AskRefused.{AskRefused}
 use Rattle.ppp_bap.specs.declared.ask_refused.AskRefused.TheVariants.{NotOpen, Waiting, Full, NotJoined, NoNumber, Promised, LastLink}
@@ -10,7 +10,6 @@ use Rattle.ppp_bap.specs.declared.bap_packet.Offer.{Offer}
 use Rattle.ppp_bap.specs.declared.bap_packet.Request.{Request}
 use Rattle.ppp_bap.specs.declared.bap_packet.Request.TheVariants as asked
 use Rattle.ppp_bap.specs.declared.bundle_view.BundleView.{BundleView}
-use Rattle.ppp_bap.specs.declared.bundle_view.TheConstants.{LINKS}
 
 -- what this end offers: an ISDN link of its speed
 abbrev pub own_offer : BundleView → Offer
@@ -21,12 +20,12 @@ abbrev pub link_asked : (ℕ → Request) → BundleView → Option ℕ → Resu
 link_asked request v None = Err (Full (joined_count v))
 link_asked request v (Some l) = Ok (request l)
 
--- a joined link with a number that wasn't promised and isn't the last one may be dropped
+-- a joined link with a number may be dropped that wasn't promised, where enough others stay
 abbrev pub drop_asked : ℕ → BundleView → Option ℕ → Result Request AskRefused
 drop_asked l v None = Err (NoNumber l)
 drop_asked l v (Some number) =
     if is_marked v l then Err (Promised l)
-    else if is_last l v then Err (LastLink (staying_count l v))
+    else if leaves_too_few l v then Err (LastLink (staying_count l v))
     else Ok (asked.Drop number)
 
 abbrev pub drop_wished : ℕ → BundleView → Result Request AskRefused
@@ -48,9 +47,3 @@ request_for what v q =
 abbrev pub told : Result Request AskRefused → Result ⊤ AskRefused
 told (Ok request) = Ok tt
 told (Err why) = Err why
-
--- the link to drop is 1 to 16
-abbrev pub IsOfLink : BapAsk → Type 0
-IsOfLink ask.Call = Unit {0}
-IsOfLink ask.Callback = Unit {0}
-IsOfLink (ask.Drop l) = (1 ≤ l) × (l ≤ LINKS)

@@ -7,7 +7,7 @@ use crate::bap_packet::{Request, Response};
 
 /// A request that was sent and waits for its response.
 #[derive(Clone, Copy, Debug, PartialEq, Eq)]
-pub(crate) struct Waiting {
+pub(crate) struct Wait {
     /// Its Identifier, that of each of its copies.
     pub(crate) id: u8,
     /// What it asks.
@@ -18,7 +18,7 @@ pub(crate) struct Waiting {
     pub(crate) sent: u8,
 }
 
-impl Waiting {
+impl Wait {
     ghost use Rattle.ppp_bap.specs.Requests.{is_response_to};
 
     /// Whether a response is to this request: its Type and its Identifier are.

@@ -2,9 +2,9 @@
 use Rattle.std.specs.Prelude.{ℕ, Bool, true, false, ◌&&◌, if◌then◌else◌, List, [], ◌∷◌, Option, Some, None, ⊤}
 use Rattle.ppp_bap.specs.BapOut.{Entry, Send, Mark, Dial}
 use Rattle.ppp_bap.specs.BapPacket.{bap_octets}
-use Rattle.ppp_bap.specs.BundleView.{is_idle, is_last, joined_count, link_numbered, spare_link}
+use Rattle.ppp_bap.specs.BundleView.{is_idle, leaves_too_few, joined_count, link_numbered, spare_link}
 use Rattle.ppp_bap.specs.declared.answer.Answer.{Answer}
-use Rattle.ppp_bap.specs.declared.answer.Answer.TheVariants as says
+use Rattle.ppp_bap.specs.declared.answer.Answer.TheVariants as answer
 use Rattle.ppp_bap.specs.declared.bap_packet.Message.TheVariants as message
 use Rattle.ppp_bap.specs.declared.bap_packet.Offer.{Offer}
 use Rattle.ppp_bap.specs.declared.bap_packet.Request.{Request}
@@ -47,28 +47,28 @@ IfAsked says (Some question) allowed = says question allowed
 
 -- the Ack of a call tells the least idle link
 abbrev pub answer_call : Bool → Option ℕ → Answer
-answer_call allowed None = says.FullNak
-answer_call allowed (Some l) = if allowed then says.Ack l else says.Nak
+answer_call allowed None = answer.FullNak
+answer_call allowed (Some l) = if allowed then answer.Ack l else answer.Nak
 
 -- that of a callback dials the link that it names
 abbrev pub answer_named : Bool → BundleView → Option ℕ → Answer
-answer_named allowed v None = says.Nak
-answer_named allowed v (Some l) = if is_idle v l && allowed then says.Ack l else says.Nak
+answer_named allowed v None = answer.Nak
+answer_named allowed v (Some l) = if is_idle v l && allowed then answer.Ack l else answer.Nak
 
 abbrev pub answer_callback : Bool → BundleView → Option ℕ → Option ℕ → Answer
-answer_callback allowed v link None = says.FullNak
+answer_callback allowed v link None = answer.FullNak
 answer_callback allowed v link (Some spare) = answer_named allowed v link
 
 -- that of a drop promises the least joined link with that number
 abbrev pub answer_drop : BundleView → Option ℕ → Answer
-answer_drop v None = says.Nak
-answer_drop v (Some l) = if is_last l v then says.FullNak else says.Ack l
+answer_drop v None = answer.Nak
+answer_drop v (Some l) = if leaves_too_few l v then answer.FullNak else answer.Ack l
 
 abbrev pub answer_to_call : Bool → BundleView → Answer
-answer_to_call allowed v = if v.calls then answer_call allowed (spare_link v) else says.Rej
+answer_to_call allowed v = if v.calls then answer_call allowed (spare_link v) else answer.Rej
 
 abbrev pub answer_to_callback : Bool → BundleView → Option ℕ → Answer
-answer_to_callback allowed v link = if v.callbacks then answer_callback allowed v link (spare_link v) else says.Rej
+answer_to_callback allowed v link = if v.callbacks then answer_callback allowed v link (spare_link v) else answer.Rej
 
 -- where the policy allows it, or doesn't
 abbrev pub answer_to : Bool → BundleView → Request → Answer
@@ -79,16 +79,16 @@ answer_to allowed v (asked.Drop number) = answer_drop v (link_numbered number v)
 -- ---- what is sent and done
 
 abbrev pub code_of_answer : Answer → ResponseCode
-code_of_answer (says.Ack l) = Ack
-code_of_answer says.Nak = Nak
-code_of_answer says.Rej = Rej
-code_of_answer says.FullNak = FullNak
+code_of_answer (answer.Ack l) = Ack
+code_of_answer answer.Nak = Nak
+code_of_answer answer.Rej = Rej
+code_of_answer answer.FullNak = FullNak
 
 abbrev pub link_of_answer : Answer → Option ℕ
-link_of_answer (says.Ack l) = Some l
-link_of_answer says.Nak = None
-link_of_answer says.Rej = None
-link_of_answer says.FullNak = None
+link_of_answer (answer.Ack l) = Some l
+link_of_answer answer.Nak = None
+link_of_answer answer.Rej = None
+link_of_answer answer.FullNak = None
 
 abbrev pub response_to : Request → Answer → Response
 response_to (asked.Call offer) a = answered.Call (code_of_answer a) (link_of_answer a)
@@ -97,8 +97,8 @@ response_to (asked.Drop number) a = answered.Drop (code_of_answer a)
 
 -- what an Ack does here
 abbrev pub done_by : Request → Answer → List Entry
-done_by (asked.Callback offer link) (says.Ack l) = Dial l ∷ []
-done_by (asked.Drop number) (says.Ack l) = Mark l ∷ []
+done_by (asked.Callback offer link) (answer.Ack l) = Dial l ∷ []
+done_by (asked.Drop number) (answer.Ack l) = Mark l ∷ []
 done_by request answer = []
 
 -- the response comes first
