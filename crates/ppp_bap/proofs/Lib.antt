@@ -1,5 +1,9 @@
+pub mod AskedLemmas
 pub mod BapPacketLemmas
 pub mod DueLemmas
 pub mod GrantLemmas
 pub mod LinkSetLemmas
 pub mod RequestsLemmas
+pub mod PacketLemmas
+pub mod PlaceLemmas
+pub mod StepLemmas

@@ -1,4 +1,5 @@
 pub mod Answer
+pub mod Ask
 pub mod Bap
 pub mod BapOption
 pub mod BapOut

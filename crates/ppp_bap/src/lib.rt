@@ -38,6 +38,7 @@ pub use bundle_view::{BundleView, LINKS};
 pub use call_ask::CallAsk;
 pub use laws::{due, granted, read_again};
 pub use link_type::LinkType;
+pub use packet_type::PacketType;
 pub use policy::Policy;
 
 #[cfg(test)]

@@ -5,7 +5,7 @@ ghost use Rattle.ppp_bap.specs.PacketType.{has_code, read_type, type_number};
 
 /// The Type of a BAP packet (RFC 2125).
 #[derive(Clone, Copy, Debug, PartialEq, Eq)]
-pub(crate) enum PacketType {
+pub enum PacketType {
     /// Type 1, a Call-Request.
     CallRequest,
     /// Type 2, a Call-Response.
@@ -26,7 +26,7 @@ pub(crate) enum PacketType {
 
 impl PacketType {
     /// The Type's number, 1 to 8.
-    pub(crate) const fn number(self) -> u8
+    pub const fn number(self) -> u8
         ensures { result ≡ type_number self }
     {
         match self {
@@ -42,7 +42,7 @@ impl PacketType {
     }
 
     /// The Type of a number: None where it is no Type's.
-    pub(crate) const fn read(number: u8) -> Option<PacketType>
+    pub const fn read(number: u8) -> Option<PacketType>
         ensures { result ≡ read_type number }
     {
         match number {
@@ -59,7 +59,7 @@ impl PacketType {
     }
 
     /// Whether a response code stands before the options.
-    pub(crate) const fn has_code(self) -> bool
+    pub const fn has_code(self) -> bool
         ensures { result ≡ has_code self }
     {
         matches!(

@@ -6,12 +6,13 @@ use std::process::Abort;
 use std::test::Fail;
 
 // A feed, how many links are configured, and its last line as it prints, or where and why it is refused.
-static FEEDS: [(&str, u8, Result<&str, (u32, LineWhy)>); 29] = [
+static FEEDS: [(&str, u8, Result<&str, (u32, LineWhy)>); 32] = [
     ("up 1", 1, Ok("up 1")),
     ("down 255\r\n", 255, Ok("down 255")),
     ("open 1 ip", 1, Ok("open 1 ip")),
     ("close 16 mpls", 16, Ok("close 16 mpls")),
     ("timeout 1 bacp", 1, Ok("timeout 1 bacp")),
+    ("timeout 1 bap", 1, Ok("timeout 1 bap")),
     ("# note\n\nbytes 1 7EfF7d", 1, Ok("bytes 1 7eff7d")),
     ("bytes 1 00", 1, Ok("bytes 1 00")),
     ("up a 1", 1, Err((1, LineWhy::Event))),
@@ -25,7 +26,8 @@ static FEEDS: [(&str, u8, Result<&str, (u32, LineWhy)>); 29] = [
     ("open 1 bap", 1, Err((1, LineWhy::Event))),
     ("open 1 Lcp", 1, Err((1, LineWhy::Event))),
     ("timeout 1", 1, Err((1, LineWhy::Event))),
-    ("timeout 1 bap", 1, Err((1, LineWhy::Event))),
+    ("timeout 2 bap", 1, Err((1, LineWhy::Link))),
+    ("timeout 1 bap x", 1, Err((1, LineWhy::Event))),
     ("timeout 1 lcp x", 1, Err((1, LineWhy::Event))),
     ("up 1\nbytes 2 7", 1, Err((2, LineWhy::Link))),
     ("bytes 1", 1, Err((1, LineWhy::Event))),
@@ -35,6 +37,7 @@ static FEEDS: [(&str, u8, Result<&str, (u32, LineWhy)>); 29] = [
     ("bytes 1 7e 7e", 1, Err((1, LineWhy::Event))),
     ("bytes 0 7e", 1, Err((1, LineWhy::Event))),
     ("deliver 1", 1, Err((1, LineWhy::Event))),
+    ("drop 1", 1, Err((1, LineWhy::Event))),
     ("show", 1, Err((1, LineWhy::Event))),
 ];
 

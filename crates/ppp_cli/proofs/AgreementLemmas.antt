@@ -1,5 +1,5 @@
 -- In every state of the run that an input is replayed as two Opened ends agree.
-use Rattle.std.proofs.Common.{◌≡◌, Bool, true, false, List, ℕ, sym, ap, ◌∙◌, subst}
+use Rattle.std.proofs.Common.{◌≡◌, Bool, true, false, List, ℕ, ap, subst}
 use Rattle.std.specs.Prelude.{Option, Some, None, Ok, length, nat_lt}
 use Rattle.ppp_cli.specs.Agreement.{AgreesIfReplayed, AgreesInReplay}
 use Rattle.ppp_cli.specs.Answer.{Answers, AnswersBy, Replies}
@@ -11,27 +11,24 @@ use Rattle.ppp_cli.specs.declared.input.TheConstants.{MOST_OCTETS}
 use Rattle.ppp_cli.specs.declared.status.Status.{Status}
 use Rattle.ppp_cli.specs.declared.status.Status.TheVariants.{Ok as Fine, BadWords, ReadFault, TooLong, BadConfig, BadLine, Outstanding, WriteFault, Memory}
 use Rattle.ppp_conf.specs.Config.{Settings as Config, config_of}
-use Rattle.ppp_conf.specs.EndConfig.{EndSettings}
 use Rattle.ppp_script.specs.Event.{event_form}
 use Rattle.ppp_script.specs.Script.{events_of}
 use Rattle.ppp_script.specs.declared.event.Event.{Event}
-use Rattle.ppp_station.proofs.OneStationLemmas.{same_stations}
-use Rattle.ppp_station.specs.Station.{BeginsBy, Station}
+use Rattle.ppp_station.proofs.OneStationLemmas.{same-begin}
+use Rattle.ppp_station.specs.Station.{Station}
 use Rattle.ppp_text.specs.Parts.{settings_in, script_in}
 use Rattle.ppp_world.specs.Run.{AgreesInRun}
+use Rattle.ppp_world.specs.Says.{shipped}
 use Rattle.ppp_world.specs.World.{BothBegin}
 
 -- ---- a run that was reported
 
 -- settings decide the stations that begin by them, and so their run
-same_begin : (s : EndSettings) (one two : Station) → BeginsBy s one → BeginsBy s two → one ≡ two
-same_begin s one two first second = same_stations one two first.begun second.begun (first.settings ∙ sym second.settings)
-
-agrees_in_run : (c : Config) (events : List Event) (reply : Reply) → IsReplyToRun c events reply → (own other : Station) → BothBegin c own other → AgreesInRun own other events
+agrees_in_run : (c : Config) (events : List Event) (reply : Reply) → IsReplyToRun c events reply → (own other : Station) → BothBegin c own other → AgreesInRun (shipped c) own other events
 agrees_in_run c events reply is own other begin =
     let did = is.replay in
-    subst (λ a. AgreesInRun a other events) (same_begin c.a did.own own did.begin.a begin.a)
-    (subst (λ b. AgreesInRun did.own b events) (same_begin c.b did.other other did.begin.b begin.b) did.agreement)
+    subst (λ a. AgreesInRun (shipped c) a other events) (same-begin c.a did.own own did.begin.a begin.a)
+    (subst (λ b. AgreesInRun (shipped c) did.own b events) (same-begin c.b did.other other did.begin.b begin.b) did.agreement)
 
 -- ---- a reply whose status is that of a run is one to the run of what was read
 

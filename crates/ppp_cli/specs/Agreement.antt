@@ -9,15 +9,16 @@ use Rattle.ppp_script.specs.declared.event.Event.{Event}
 use Rattle.ppp_station.specs.Station.{Station}
 use Rattle.ppp_text.specs.Parts.{settings_in, script_in}
 use Rattle.ppp_world.specs.Run.{AgreesInRun}
+use Rattle.ppp_world.specs.Says.{shipped}
 use Rattle.ppp_world.specs.World.{BothBegin}
 
 -- They do in every state, from the start up to the first step that is refused: of the settings and of the events that the
--- text reads as, and of every two stations that begin by those settings.
+-- text reads as, and of every two stations that begin by those settings, with the policies that come with the program.
 abbrev pub AgreesInReplay : List ℕ → Type 0
 AgreesInReplay text =
     (c : Config) (events : List Event) (own other : Station)
     → config_of (settings_in text) ≡ Ok c → events_of event_form c.links (script_in text) ≡ Ok events
-    → BothBegin c own other → AgreesInRun own other events
+    → BothBegin c own other → AgreesInRun (shipped c) own other events
 
 -- so it is of the text that is replayed, where the source tells it
 abbrev pub AgreesIfReplayed : Option Command → Option (List ℕ) → Type 0

@@ -1,10 +1,9 @@
 -- A station that is fed, and what it wrote so far.
-use Rattle.std.specs.Prelude.{◌≡◌, ◌++◌}
-use Rattle.std.specs.String.{string_bytes}
+use Rattle.std.specs.Prelude.{◌≡◌, ◌++◌, List, ℕ}
 use Rattle.ppp_feed.specs.Feed.{Written}
-use Rattle.ppp_feed.specs.declared.fed.Fed.{Fed}
+use Rattle.ppp_station.specs.Station.{Station}
 
 -- the station is as it is after this, and the lines of this are written behind the others
-pub record Adds (did : Written) (old new : Fed) : Type 0 where
-  pub station : new.station ≡ did.station
-  pub text : string_bytes new.text ≡ string_bytes old.text ++ did.text
+pub record Adds (did : Written) (old : Station) (begun : List ℕ) (new : Station) (all : List ℕ) : Type 0 where
+  pub station : new ≡ did.station
+  pub text : all ≡ begun ++ did.text

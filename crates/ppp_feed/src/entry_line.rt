@@ -2,13 +2,13 @@
 
 ghost use Rattle.std.specs.Prelude.{◌≡◌, Some};
 ghost use Rattle.ppp_feed.specs.EntryLine.{class_text, entry_line, protocol_text};
-ghost use Rattle.ppp_station.specs.StationOut.{entry_seen};
+ghost use Rattle.ppp_trunk.specs.StationOut.{entry_seen};
 
 use ppp_station::StationEntry;
 use ppp_text::HexText;
 use std::fmt;
 
-/// An entry. It prints as its line, with its LF.
+/// An entry. It prints as its line, with its LF; an answer to one who asks prints as nothing, as no line of a feed asks.
 #[derive(Clone, Copy)]
 pub(crate) struct EntryLine<'a> {
     pub(crate) entry: StationEntry<'a>,
@@ -34,6 +34,8 @@ impl fmt::Display for EntryLine<'_> {
                 write!(f, "got {class} {protocol} {octets}\n")
             }
             StationEntry::Hang(link) => write!(f, "hang {link}\n"),
+            StationEntry::Dial(link) => write!(f, "dial {link}\n"),
+            StationEntry::Asked(_) => Ok(()),
         }
     }
 }

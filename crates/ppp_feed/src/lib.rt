@@ -2,7 +2,7 @@
 //!
 //! [`feed`] makes a station of an end's settings, does each line of a script to it, and gives what comes of
 //! them as lines: `push L HEX` for a frame to send, `got C P HEX` for a datagram that came, `hang L` for a line that LCP is
-//! done with. Octets are taken up to the end of each frame in turn. There is no clock: timers fire where a line says so.
+//! done with, `dial L` for a link that BAP has brought up. Octets are taken up to the end of each frame in turn. There is no clock: timers fire where a line says so.
 //! Settings and lines decide what is written ([`decided`]). The rules of these lines are this project's own.
 #![tactic(auto)]
 

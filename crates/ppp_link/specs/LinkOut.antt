@@ -19,7 +19,7 @@ pub data Entry : Type 0 where
   -- a control protocol came to be Opened, left Opened
   NetUp : (proto : Proto) → Entry
   NetDown : (proto : Proto) → Entry
-  -- what a frame carries that is no control protocol's
+  -- what a frame carries that is no control protocol's: a datagram, a fragment or a packet of BAP
   Payload : (protocol : ℕ) (octets : List ℕ) → Entry
 
 -- an entry that is lent

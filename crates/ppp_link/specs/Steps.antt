@@ -164,10 +164,15 @@ rejects number info did = record {
 
 -- ---- frames
 
--- whether what a frame of that protocol carries is handed up: data of a configured control protocol, or fragments where
--- this end does multilink
+-- whether a frame of that protocol is one of BAP, which is known where BACP is configured (RFC 2125)
+abbrev pub is_bap : Automata → ℕ → Bool
+is_bap k number = (number == 0xc02d) && is_there k Bacp
+
+-- whether what a frame of that protocol carries is handed up: data of a configured control protocol, fragments where this
+-- end does multilink, or a packet of BAP
 abbrev pub is_payload : LinkTables → Automata → ℕ → Bool
-is_payload t k number = is_some (there k (control_of number)) || ((number == 0x003d) && not (t.lcp.mrru == 0))
+is_payload t k number =
+    is_some (there k (control_of number)) || ((number == 0x003d) && not (t.lcp.mrru == 0)) || is_bap k number
 
 unfoldable pub hears_other : LinkTables → ℕ → List ℕ → Did → Did
 hears_other t number info did =
@@ -184,15 +189,15 @@ hears t number info word did =
     then hears_as t (there did.automata (proto_of number)) number info word did
     else did
 
--- What isn't taken inside multilink (RFC 1990 section 2 has none of LCP's negotiation there; this project no LCP at all, and no
--- multilink).
-abbrev pub is_outside : ℕ → Bool
-is_outside number = (number == proto_number Lcp) || (number == 0x003d)
+-- What isn't taken inside multilink (RFC 1990 section 2 has none of LCP's negotiation there; this project no LCP at all, no
+-- multilink and no BAP).
+abbrev pub is_outside : Automata → ℕ → Bool
+is_outside k number = (number == proto_number Lcp) || (number == 0x003d) || is_bap k number
 
 -- a packet is taken that came inside multilink, while LCP is Opened
 unfoldable pub hears_inner : LinkTables → ℕ → List ℕ → ℕ → Did → Did
 hears_inner t number info word did =
-    if is_outside number || not (is_opened did.automata.lcp.state)
+    if is_outside did.automata number || not (is_opened did.automata.lcp.state)
     then did
     else hears_as t (there did.automata (proto_of number)) number info word did
 

@@ -1,13 +1,16 @@
 //! A link.
 
-ghost use Rattle.std.specs.Prelude.{◌≡◌, ◌<◌, ◌≤◌, not, IfOk, option_map, length};
+ghost use Rattle.std.specs.Prelude.{◌≡◌, ◌<◌, ◌≤◌, [], ◌∷◌, not, IfOk, option_map, length};
 ghost use Rattle.std.specs.Option.{option_and_then};
 ghost use Rattle.ppp_auto.specs.Auto.{is_off, mine_of, peer_of};
 ghost use Rattle.ppp_auto.specs.declared.auto_event.AutoEvent.TheVariants.{AdminClose, AdminOpen, Down, Timeout, Up};
+ghost use Rattle.ppp_auto.specs.declared.outbox.TheConstants.{MOST_OCTETS as MOST_PACKET};
 ghost use Rattle.ppp_conf.specs.EndConfig.{end_seen};
+ghost use Rattle.ppp_frame.specs.Frame.{enc};
 ghost use Rattle.ppp_packet.specs.declared.proto.Proto.TheVariants.{Lcp};
-ghost use Rattle.ppp_link.specs.Automata.{auto_at, is_timed_at};
+ghost use Rattle.ppp_link.specs.Automata.{auto_at, form_of, is_timed_at};
 ghost use Rattle.ppp_link.specs.Link.{cleared, event_did, fed_with, inner_did, link_begun, link_up, link_with, run_did};
+ghost use Rattle.ppp_link.specs.LinkOut.{Push};
 ghost use Rattle.ppp_link.specs.LinkSettings.{settings_of};
 ghost use Rattle.ppp_link.specs.LinkTables.{tables_seen};
 ghost use Rattle.ppp_link.specs.declared.link.TheConstants.{MOST_AFTER_EVENT, MOST_AFTER_FRAME, MOST_AFTER_RUN, MOST_FRAME, MOST_INNER};
@@ -137,6 +140,7 @@ impl Link {
 
     /// Takes octets up to the end of the first frame or discard, and answers how many that is. What a frame carries comes for
     /// its automaton, or is handed up, or its protocol is rejected; while LCP isn't Opened everything but LCP is discarded.
+    /// Packets of BAP are handed up where BACP is configured.
     /// Short headers are read while LCP grants them (RFC 1661 sections 6.5 and 6.6).
     #[tactic(auto, unfolding(crate::specs::Link::fed_with))]
     pub fn bytes(&mut self, piece: &[u8], word: u64, out: &mut LinkOut) -> usize
@@ -159,8 +163,9 @@ impl Link {
     }
 
     /// Takes a packet of at most 8,193 octets that came inside multilink, on the control link of its bundle. One of LCP or
-    /// of multilink is discarded, and so is any while LCP isn't Opened; others come for their automaton, or are handed up, or
-    /// their protocol is rejected. RFC 1990 section 2 has none of LCP's negotiation there; here it is all of LCP.
+    /// of multilink is discarded, one of BAP where BACP is configured, and any while LCP isn't Opened; others come for their
+    /// automaton, or are handed up, or their protocol is rejected. RFC 1990 section 2 has none of LCP's negotiation there;
+    /// here it is all of LCP.
     pub fn inner(&mut self, protocol: u16, octets: &[u8], word: u64, out: &mut LinkOut)
         requires { length octets.now ≤ MOST_INNER }
         ensures link { self.new ≡ link_with self.old (inner_did self.old protocol octets.now word) }
@@ -174,6 +179,16 @@ impl Link {
         };
         self.automata
             .hear_inner(packet, word, &mut self.outbox, out);
+    }
+
+    /// Frames a packet of at most 1,500 octets of a protocol above LCP that has no automaton, as BAP (RFC 2125), in the form that
+    /// the peer asked for.
+    pub fn send_packet(&self, protocol: u16, packet: &[u8], out: &mut LinkOut)
+        requires { length packet.now ≤ MOST_PACKET }
+        ensures { out.new ≡ Push (enc (form_of self.now.automata.lcp) protocol packet.now) ∷ [] }
+    {
+        out.clear();
+        out.push_frame(self.automata.form(Proto::Bacp), protocol, packet);
     }
 
     /// Is as a new link of the same settings.

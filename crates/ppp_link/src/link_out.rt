@@ -139,7 +139,16 @@ impl LinkOut {
         requires size { length packet.now ≤ MOST_PACKET }
         ensures { self.new ≡ self.old ++ Push (enc form (proto_number proto) packet.now) ∷ [] }
     {
-        write_frame(&mut self.buffer, form, proto, packet);
+        self.push_frame(form, proto.number(), packet);
+    }
+
+    /// Puts the frame of a packet of the protocol of that number at the end, written in this form.
+    pub(crate) fn push_frame(&mut self, form: Form, protocol: u16, packet: &[u8])
+        requires few { length self.old < SLOTS }
+        requires size { length packet.now ≤ MOST_PACKET }
+        ensures { self.new ≡ self.old ++ Push (enc form protocol packet.now) ∷ [] }
+    {
+        write_frame(&mut self.buffer, form, protocol, packet);
         let start = self.octets.len();
         put_octets(&mut self.octets, self.buffer.octets());
         self.slots.push(Slot::Push(start, self.octets.len()));
@@ -180,12 +189,12 @@ fn put_octets(octets: &mut Vec<u8>, more: &[u8])
 }
 
 /// Writes the frame of a packet.
-fn write_frame(buffer: &mut FrameBuf, form: Form, proto: Proto, packet: &[u8])
+fn write_frame(buffer: &mut FrameBuf, form: Form, protocol: u16, packet: &[u8])
     requires { length packet.now ≤ MOST_PACKET }
-    ensures frame { buffer.new ≡ enc form (proto_number proto) packet.now }
+    ensures frame { buffer.new ≡ enc form protocol packet.now }
     ensures size { length buffer.new ≤ MOST_PUSH }
 {
-    encode(buffer, form, proto.number(), packet).unwrap();
+    encode(buffer, form, protocol, packet).unwrap();
 }
 
 /// The slot of a signal of a protocol, if it is one that the layers above are told.

@@ -7,7 +7,7 @@ ghost use Rattle.ppp_packet.specs.Proto.{proto_of};
 ghost use Rattle.ppp_auto.specs.Outbox.{entry_seen, IsShort};
 ghost use Rattle.ppp_auto.specs.declared.auto.TheConstants.{LEAST_CAP, MOST_CAP};
 ghost use Rattle.ppp_link.specs.Proto.{control_of};
-ghost use Rattle.ppp_link.specs.Steps.{does, does_rejected, each_does, given_seen, hears, hears_inner, hears_other, is_outside, is_payload, reject_packet, rejected_if, rejected_in, rejects, run_by, runs, so_far, takes, there, told_all, told_by, told_one, Event, Packet};
+ghost use Rattle.ppp_link.specs.Steps.{does, does_rejected, each_does, given_seen, hears, hears_inner, hears_other, is_bap, is_outside, is_payload, reject_packet, rejected_if, rejected_in, rejects, run_by, runs, so_far, takes, there, told_all, told_by, told_one, Event, Packet};
 ghost use Rattle.ppp_link.specs.declared.link_out.TheConstants.{MOST_OCTETS, SLOTS};
 ghost use Rattle.ppp_link.specs.declared.steps.TheConstants.{MOST_ADDED, MOST_DATA, NETS, REJECT_HEADER};
 
@@ -21,6 +21,9 @@ use ppp_packet::{Code, Proto, write_packet};
 
 /// The protocol of multilink's fragments (RFC 1990 section 3).
 pub(crate) const MULTILINK: u16 = 0x003d;
+
+/// The protocol of BAP's packets (RFC 2125).
+const BAP: u16 = 0xc02d;
 
 /// The octets of a Protocol-Reject before the information (RFC 1661 section 5.7).
 pub(crate) const REJECT_HEADER: usize = 6;
@@ -189,7 +192,7 @@ impl Automata {
         }
     }
 
-    /// A packet is taken that came inside multilink, while LCP is Opened: none of LCP or multilink.
+    /// A packet is taken that came inside multilink, while LCP is Opened: none of LCP, multilink or BAP.
     #[tactic(auto, unfolding(crate::specs::Steps::hears_inner))]
     pub(crate) fn hear_inner(
         &mut self,
@@ -205,7 +208,7 @@ impl Automata {
             ≡ hears_inner self.old.0 packet.entry.protocol packet.entry.info.now word (so_far self.old.1 out.old) }
         ensures few { length out.new ≤ length out.old + 2 * MOST_ADDED }
     {
-        if is_outside(packet.protocol) || !self.is_opened() {
+        if self.is_outside(packet.protocol) || !self.is_opened() {
             return;
         }
         match self.configured(packet.protocol) {
@@ -274,15 +277,22 @@ impl Automata {
             Some(proto) => self.state(proto).is_some(),
             None => false,
         };
-        belongs || (number == MULTILINK && self.is_multilink())
+        belongs || (number == MULTILINK && self.is_multilink()) || self.is_bap(number)
     }
-}
 
-/// Whether packets of that protocol aren't taken inside multilink.
-fn is_outside(number: u16) -> bool
-    ensures { result ≡ is_outside number }
-{
-    number == Proto::Lcp.number() || number == MULTILINK
+    /// Whether a frame of that protocol is one of BAP, which is known where BACP is configured.
+    fn is_bap(&self, number: u16) -> bool
+        ensures { result ≡ is_bap self.now.1 number }
+    {
+        number == BAP && self.state(Proto::Bacp).is_some()
+    }
+
+    /// Whether packets of that protocol aren't taken inside multilink.
+    fn is_outside(&self, number: u16) -> bool
+        ensures { result ≡ is_outside self.now.1 number }
+    {
+        number == Proto::Lcp.number() || number == MULTILINK || self.is_bap(number)
+    }
 }
 
 /// The control protocol that a protocol of data belongs to.

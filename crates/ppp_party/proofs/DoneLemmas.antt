@@ -1,5 +1,5 @@
 -- What the code of an end does is what the definitions say of all its links.
-use Rattle.std.proofs.Common.{◌≡◌, ℕ, ◌-◌, ◌≤◌, List, [], ◌∷◌, ◌++◌, length, map, set, get_or, replicate, refl, sym, ap, subst, ◌∙◌, arith, length-set}
+use Rattle.std.proofs.Common.{◌≡◌, ℕ, suc, ◌+◌, ◌-◌, ◌<◌, ◌≤◌, Bool, false, List, [], ◌∷◌, ◌++◌, length, map, set, get_or, replicate, refl, sym, ap, subst, ◌∙◌, arith, length-set}
 use Rattle.std.specs.Prelude.{Some, slice_get}
 use Rattle.std.specs.List.{AllByRecursion}
 use Rattle.std.proofs.lemmas.List.{length-map, set-get_or}
@@ -7,138 +7,179 @@ use Rattle.ppp_duet.specs.Duet.{without}
 use Rattle.ppp_duet.specs.Span.{answers, least, requests}
 use Rattle.ppp_link.specs.Link.{Link}
 use Rattle.ppp_packet.specs.declared.proto.Proto.{Proto}
-use Rattle.ppp_station.specs.Moves.{AreLinked}
-use Rattle.ppp_station.specs.Station.{Station, on_link, station_anew}
-use Rattle.ppp_station.specs.StationOut.{Entry, Out}
-use Rattle.ppp_station.specs.Steps.{Happening, Takes}
-use Rattle.ppp_station.proofs.MovesLemmas.{counts}
+use Rattle.ppp_bap.specs.Answer.{IfAsked}
+use Rattle.ppp_bap.specs.declared.bap.TheConstants.{BUNDLES}
+use Rattle.ppp_bap.specs.declared.bap_ask.BapAsk.{BapAsk}
+use Rattle.ppp_bap.specs.declared.call_ask.CallAsk.{CallAsk}
+use Rattle.ppp_trunk.specs.StationOut.{AreShort, Out}
+use Rattle.ppp_trunk.specs.Steps.{Happening}
+use Rattle.ppp_bundle.specs.Bundles.{bundle_at}
+use Rattle.ppp_station.specs.Station.{IsStation, Station, Stepped, asks_peer, hears, moves, station_anew, tells_peer, tries_again}
+use Rattle.ppp_station.specs.Steps.{bundle_timed}
+use Rattle.ppp_party.specs.BapSpans.{Oldest, bap_answers, bap_marks_on, bap_oldest_to, bap_requests, older}
+use Rattle.ppp_party.specs.Calls.{Calls, notes_ask, notes_drawn, ordinal_if}
 use Rattle.ppp_party.specs.Frame.{Frame, only}
 use Rattle.ppp_party.specs.Ledger.{Ledgers, ledgers_begun}
-use Rattle.ppp_party.specs.Party.{Party, AreRoomy, IsParty, cleared, delivers, downs, each_noted, each_queued, happens, heard_on, loses, party_begun, posted, reboots, room, taking_front, turned, with_heard}
+use Rattle.ppp_party.specs.Party.{AreRoomy, Delivered, Ends, IsParty, Party, Taken, asked_for_front, asks, cleared, delivers, downs, happens, heard_on, loses, party_begun, posted, reboots, room, station_of, taken, taking_front, tells, tries, turned, with_heard}
 use Rattle.ppp_party.specs.Spans.{oldest_on, queue_if, sent_on}
 use Rattle.ppp_party.proofs.ListLemmas.{all-set, at-set, lent-at}
 use Rattle.ppp_party.proofs.QueueLemmas.{least-behind}
+use Rattle.ppp_station.proofs.CountLemmas.{hears-answered}
+
+-- an end as the code keeps it
+abbrev pub party_at : Station → ℕ → List ℕ → List Ledgers → List (List Frame) → Party
+party_at st drawn ordinals gss queues = record {
+  trunk = st.trunk;
+  calls = record { requests = st.requests; terms = st.terms; drawn = drawn; ordinals = ordinals };
+  ledgers = gss;
+  incoming = queues;
+}
 
 -- ---- an end stays whole
 
-pub whole-posted : (e : Party) (st : Station) (gss : List Ledgers) → length st.links ≡ length e.station.links → length gss ≡ length e.ledgers → IsParty e → IsParty (record { station = st; ledgers = gss; incoming = e.incoming })
-whole-posted e st gss same many is = record {
-  ledgers = many ∙ is.ledgers ∙ sym same;
+pub whole-stepped : (old st : Station) (drawn now : ℕ) (ordinals kept : List ℕ) (gss : List Ledgers) (queues : List (List Frame)) → IsStation st → length st.trunk.links ≡ length old.trunk.links → length kept ≡ length ordinals →
+    IsParty (party_at old drawn ordinals gss queues) → IsParty (party_at st now kept gss queues)
+whole-stepped old st drawn now ordinals kept gss queues whole same many is = record {
+  station = whole;
+  ordinals = many ∙ is.ordinals;
+  ledgers = is.ledgers ∙ sym same;
   incoming = is.incoming ∙ sym same;
   few = is.few;
 }
 
--- the front frame is taken out
-pub whole-taken : (e : Party) (st : Station) (gss : List Ledgers) (i : ℕ) (queue : List Frame) → length st.links ≡ length e.station.links → length gss ≡ length e.ledgers → length queue ≤ room → IsParty e →
-    IsParty (record { station = st; ledgers = gss; incoming = set e.incoming i queue })
-whole-taken e st gss i queue same many few is = record {
-  ledgers = many ∙ is.ledgers ∙ sym same;
-  incoming = length-set e.incoming i queue ∙ is.incoming ∙ sym same;
-  few = all-set (λ queue. length queue ≤ room) e.incoming i queue is.few few;
+-- the front frame is taken out, and heard of
+pub whole-taken : (old st : Station) (drawn : ℕ) (ordinals : List ℕ) (gss : List Ledgers) (queues : List (List Frame)) (i : ℕ) (gs : Ledgers) (queue : List Frame) → IsStation st → length st.trunk.links ≡ length old.trunk.links → length queue ≤ room →
+    IsParty (party_at old drawn ordinals gss queues) → IsParty (party_at st drawn ordinals (set gss i gs) (set queues i queue))
+whole-taken old st drawn ordinals gss queues i gs queue whole same few is = record {
+  station = whole;
+  ordinals = is.ordinals;
+  ledgers = length-set gss i gs ∙ is.ledgers ∙ sym same;
+  incoming = length-set queues i queue ∙ is.incoming ∙ sym same;
+  few = all-set (λ queue. length queue ≤ room) queues i queue is.few few;
 }
 
 -- ---- what goes out
 
--- it goes out on links that have ledgers
-pub linked-here : (what : Happening) (l word : ℕ) (e : Party) (st : Station) (es : List Entry) → IsParty e → st ≡ (on_link what l e.station word).station → AreLinked (length st.links) es → AreLinked (length e.ledgers) es
-linked-here what l word e st es whole is linked =
-    subst (λ n. AreLinked n es) (ap (λ (st : Station). length st.links) is ∙ counts what l word e.station ∙ sym whole.ledgers) linked
-
 -- the station has stepped, and what goes out was posted
-posts : (mark : ℕ) (what : Happening) (l word : ℕ) (own other : Party) (old st : Station) (told : Out) (gss : List Ledgers) (queues : List (List Frame)) →
-    st ≡ (on_link what l old word).station → told ≡ (on_link what l old word).out → gss ≡ each_noted 1 told.entries own.ledgers → queues ≡ each_queued 1 mark told.entries own.ledgers other.incoming →
-    record {
-      own = record { station = st; ledgers = gss; incoming = own.incoming };
-      other = record { station = other.station; ledgers = other.ledgers; incoming = queues };
-    } ≡ posted mark (on_link what l old word) (record { own = own; other = other })
-posts mark what l word own other old st told gss queues st_is told_is notes sends =
-    (λ i. record {
-      own = record { station = st_is i; ledgers = (notes ∙ ap (λ (o : Out). each_noted 1 o.entries own.ledgers) told_is) i; incoming = own.incoming };
-      other = record { station = other.station; ledgers = other.ledgers; incoming = (sends ∙ ap (λ (o : Out). each_queued 1 mark o.entries own.ledgers other.incoming) told_is) i };
-    })
+pub stepped-posted : (mark : ℕ) (step : Stepped) (old st : Station) (drawn : ℕ) (ordinals : List ℕ) (gss : List Ledgers) (queues : List (List Frame)) (other : Party) (told : Out) →
+    step.station.terms ≡ old.terms → st ≡ step.station → told ≡ step.out →
+    posted mark (record { station = st; out = told }) (record { own = party_at st drawn ordinals gss queues; other = other }) ≡ posted mark step (record { own = party_at old drawn ordinals gss queues; other = other })
+stepped-posted mark step old st drawn ordinals gss queues other told terms st_is told_is =
+    (λ i. posted mark (record { station = st_is i; out = told_is i }) (record { own = party_at (st_is i) drawn ordinals gss queues; other = other }))
+    ∙ ap (λ t. posted mark step (record { own = party_at (record step.station { terms = t }) drawn ordinals gss queues; other = other })) terms
 
 -- something that brings no frame
-pub happened : (what : Happening) (l word : ℕ) (own other : Party) (st : Station) (told : Out) (gss : List Ledgers) (queues : List (List Frame)) →
-    st ≡ (on_link what l own.station word).station → told ≡ (on_link what l own.station word).out → gss ≡ each_noted 1 told.entries own.ledgers → queues ≡ each_queued 1 0 told.entries own.ledgers other.incoming →
-    record {
-      own = record { station = st; ledgers = gss; incoming = own.incoming };
-      other = record { station = other.station; ledgers = other.ledgers; incoming = queues };
-    } ≡ happens what l word (record { own = own; other = other })
+pub happened : (what : Happening) (l word : ℕ) (old st : Station) (drawn : ℕ) (ordinals : List ℕ) (gss : List Ledgers) (queues : List (List Frame)) (other : Party) (told : Out) →
+    st ≡ (moves what l old word).station → told ≡ (moves what l old word).out →
+    posted 0 (record { station = st; out = told }) (record { own = party_at st drawn ordinals gss queues; other = other }) ≡ happens what l word (record { own = party_at old drawn ordinals gss queues; other = other })
 unfolding happens
-happened what l word own other st told gss queues st_is told_is notes sends = posts 0 what l word own other own.station st told gss queues st_is told_is notes sends
+happened what l word old st drawn ordinals gss queues other told st_is told_is = stepped-posted 0 (moves what l old word) old st drawn ordinals gss queues other told refl st_is told_is
+
+-- the peer is asked, and the ordinal that was drawn is kept
+pub asked-so : (l word : ℕ) (what : BapAsk) (old st : Station) (drawn now : ℕ) (ordinals kept : List ℕ) (gss : List Ledgers) (queues : List (List Frame)) (other : Party) (told : Out) →
+    st ≡ (asks_peer l what old word).station → told ≡ (asks_peer l what old word).out →
+    record { requests = old.requests; terms = old.terms; drawn = now; ordinals = kept } ≡ notes_ask (bundle_at l old.trunk.bundles) told.entries (record { requests = old.requests; terms = old.terms; drawn = drawn; ordinals = ordinals }) →
+    posted (drawn + 1) (record { station = st; out = told }) (record { own = party_at st now kept gss queues; other = other }) ≡ asks l what word (record { own = party_at old drawn ordinals gss queues; other = other })
+unfolding asks
+asked-so l word what old st drawn now ordinals kept gss queues other told st_is told_is notes =
+    let step = asks_peer l what old word in
+    let own = party_at old drawn ordinals gss queues in
+    stepped-posted (drawn + 1) step old st now kept gss queues other told refl st_is told_is
+    ∙ ap (λ (c : Calls). posted (drawn + 1) step (record { own = record own { calls = c }; other = other })) (notes ∙ ap (λ (o : Out). notes_ask (bundle_at l old.trunk.bundles) o.entries own.calls) told_is)
+
+-- it is told how a call went
+pub told-so : (l status word : ℕ) (old st : Station) (drawn now : ℕ) (ordinals : List ℕ) (gss : List Ledgers) (queues : List (List Frame)) (other : Party) (told : Out) →
+    st ≡ (tells_peer l status old word).station → told ≡ (tells_peer l status old word).out →
+    record { requests = old.requests; terms = old.terms; drawn = now; ordinals = ordinals } ≡ notes_drawn told.entries (record { requests = old.requests; terms = old.terms; drawn = drawn; ordinals = ordinals }) →
+    posted (drawn + 1) (record { station = st; out = told }) (record { own = party_at st now ordinals gss queues; other = other }) ≡ tells l status word (record { own = party_at old drawn ordinals gss queues; other = other })
+unfolding tells
+told-so l status word old st drawn now ordinals gss queues other told st_is told_is notes =
+    let step = tells_peer l status old word in
+    let own = party_at old drawn ordinals gss queues in
+    stepped-posted (drawn + 1) step old st now ordinals gss queues other told refl st_is told_is
+    ∙ ap (λ (c : Calls). posted (drawn + 1) step (record { own = record own { calls = c }; other = other })) (notes ∙ ap (λ (o : Out). notes_drawn o.entries own.calls) told_is)
+
+-- the timer of BAP fires
+pub tried-so : (l word mark : ℕ) (old st : Station) (drawn : ℕ) (ordinals : List ℕ) (gss : List Ledgers) (queues : List (List Frame)) (other : Party) (told : Out) →
+    st ≡ (tries_again l old word).station → told ≡ (tries_again l old word).out → mark ≡ ordinal_if (bundle_timed l old.trunk) (record { requests = old.requests; terms = old.terms; drawn = drawn; ordinals = ordinals }) →
+    posted mark (record { station = st; out = told }) (record { own = party_at st drawn ordinals gss queues; other = other }) ≡ tries l word (record { own = party_at old drawn ordinals gss queues; other = other })
+unfolding tries
+tried-so l word mark old st drawn ordinals gss queues other told st_is told_is mark_is =
+    stepped-posted mark (tries_again l old word) old st drawn ordinals gss queues other told refl st_is told_is
+    ∙ ap (λ m. posted m (tries_again l old word) (record { own = party_at old drawn ordinals gss queues; other = other })) mark_is
 
 -- a frame is taken
-heard-party : (l at word : ℕ) (own : Party) (k : Link) (f : Frame) (rest front : List Frame) (gs heard : Ledgers) → at ≡ l - 1 → 1 ≤ l →
-    slice_get own.ledgers (l - 1) ≡ Some gs → slice_get own.incoming (l - 1) ≡ Some front → slice_get own.station.links (l - 1) ≡ Some k → heard ≡ heard_on k f word gs →
-    record { station = own.station; ledgers = set own.ledgers at heard; incoming = set own.incoming at rest } ≡ with_heard l word f rest (slice_get own.station.links (l - 1)) own
-heard-party l at word own k f rest front gs heard is low there waits link heard_is =
-    (λ i. record {
-      station = own.station;
-      ledgers = (ap (set own.ledgers at) heard_is ∙ ap (λ n. set own.ledgers n (heard_on k f word gs)) is ∙ sym (at-set (heard_on k f word) own.ledgers l gs low there)) i;
-      incoming = (ap (λ n. set own.incoming n rest) is ∙ sym (at-set (λ queue. rest) own.incoming l front low waits)) i;
-    })
-    ∙ ap (λ o. with_heard l word f rest o own) (sym link)
+heard-party : (st : Station) (drawn : ℕ) (ordinals : List ℕ) (gss : List Ledgers) (queues : List (List Frame)) (l at word : ℕ) (k : Link) (f : Frame) (rest front : List Frame) (gs heard : Ledgers) → at ≡ l - 1 → 1 ≤ l →
+    slice_get gss (l - 1) ≡ Some gs → slice_get queues (l - 1) ≡ Some front → slice_get st.trunk.links (l - 1) ≡ Some k → heard ≡ heard_on k f word gs →
+    party_at st drawn ordinals (set gss at heard) (set queues at rest) ≡ with_heard l word f rest (slice_get st.trunk.links (l - 1)) (party_at st drawn ordinals gss queues)
+heard-party st drawn ordinals gss queues l at word k f rest front gs heard is low there waits link heard_is =
+    (λ i. party_at st drawn ordinals
+    ((ap (set gss at) heard_is ∙ ap (λ n. set gss n (heard_on k f word gs)) is ∙ sym (at-set (heard_on k f word) gss l gs low there)) i)
+    ((ap (λ n. set queues n rest) is ∙ sym (at-set (λ queue. rest) queues l front low waits)) i))
+    ∙ ap (λ o. with_heard l word f rest o (party_at st drawn ordinals gss queues)) (sym link)
 
-pub delivered : (l at word mark : ℕ) (own other : Party) (k : Link) (st : Station) (told : Out) (f : Frame) (front rest : List Frame) (gs heard : Ledgers) (gss : List Ledgers) (queues : List (List Frame)) →
-    at ≡ l - 1 → 1 ≤ l → l ≤ length own.station.links → IsParty own →
-    front ≡ get_or own.incoming at front → front ≡ f ∷ rest → slice_get own.station.links (l - 1) ≡ Some k →
-    st ≡ (on_link (Takes f.octets) l own.station word).station → told ≡ (on_link (Takes f.octets) l own.station word).out →
-    gs ≡ get_or own.ledgers at gs → heard ≡ heard_on k f word gs → mark ≡ f.mark →
-    gss ≡ each_noted 1 told.entries (set own.ledgers at heard) → queues ≡ each_queued 1 mark told.entries (set own.ledgers at heard) other.incoming →
-    record {
-      own = record { station = st; ledgers = gss; incoming = set own.incoming at rest };
-      other = record { station = other.station; ledgers = other.ledgers; incoming = queues };
-    } ≡ delivers l word (record { own = own; other = other })
-unfolding delivers
-delivered l at word mark own other k st told f front rest gs heard gss queues is low high whole lends front_is link st_is told_is there heard_is mark_is notes sends =
-    let middle : Party = record { station = own.station; ledgers = set own.ledgers at heard; incoming = set own.incoming at rest } in
-    let waiting : slice_get own.incoming (l - 1) ≡ Some front = lent-at own.incoming at l front is low (omega (arith, high, whole.incoming)) lends in
-    let ledgers : slice_get own.ledgers (l - 1) ≡ Some gs = lent-at own.ledgers at l gs is low (omega (arith, high, whole.ledgers)) there in
-    posts f.mark (Takes f.octets) l word middle other own.station st told gss queues st_is told_is notes (sends ∙ ap (λ m. each_queued 1 m told.entries middle.ledgers other.incoming) mark_is)
-    ∙ ap (λ p. posted f.mark (on_link (Takes f.octets) l own.station word) (record { own = p; other = other })) (heard-party l at word own k f rest front gs heard is low ledgers waiting link heard_is)
-    ∙ ap (λ o. taking_front l word o (record { own = own; other = other })) (sym (waiting ∙ ap (λ queue. Some queue) front_is))
+-- what an end with that front frame is
+module _ (st : Station) (drawn : ℕ) (ordinals : List ℕ) (gss : List Ledgers) (queues : List (List Frame)) (l at : ℕ) (front : List Frame) (is : at ≡ l - 1) (low : 1 ≤ l) (high : l ≤ length st.trunk.links)
+    (whole : IsParty (party_at st drawn ordinals gss queues)) (lends : front ≡ get_or queues at front) where
+  pub waiting : slice_get queues (l - 1) ≡ Some front
+  waiting = lent-at queues at l front is low (omega (arith, high, whole.incoming)) lends
 
--- what holds of the step by the front frame
-pub front-of : (P : Out → Type 0) (l at word : ℕ) (own : Party) (g f : Frame) (front behind rest : List Frame) (told : Out) → at ≡ l - 1 → 1 ≤ l → l ≤ length own.station.links → IsParty own →
-    front ≡ get_or own.incoming at front → front ≡ g ∷ behind → told ≡ (on_link (Takes g.octets) l own.station word).out → P told →
-    slice_get own.incoming (l - 1) ≡ Some (f ∷ rest) → P (on_link (Takes f.octets) l own.station word).out
-front-of P l at word own g f front behind rest told is low high whole lends front_is told_is holds there =
-    let waiting : slice_get own.incoming (l - 1) ≡ Some front = lent-at own.incoming at l front is low (omega (arith, high, whole.incoming)) lends in
-    let both : Some (g ∷ behind) ≡ Some (f ∷ rest) = sym (waiting ∙ ap (λ queue. Some queue) front_is) ∙ there in
-    let same : g ≡ f = cc in
-    subst P (told_is ∙ ap (λ (f : Frame). (on_link (Takes f.octets) l own.station word).out) same) holds
+  -- the policy said yes or no where it was asked, and the frame was delivered
+  pub delivered : (says : CallAsk → Bool → Type 0) (word : ℕ) (other : Party) (k : Link) (new : Station) (told : Out) (f : Frame) (rest : List Frame) (gs heard : Ledgers) (after : Ends) → front ≡ f ∷ rest → slice_get st.trunk.links (l - 1) ≡ Some k →
+      (did : Taken says l f.octets word st new told) → gs ≡ get_or gss at gs → heard ≡ heard_on k f word gs → AreShort told.entries →
+      after ≡ posted f.mark (record { station = new; out = told }) (record { own = party_at new drawn ordinals (set gss at heard) (set queues at rest); other = other }) →
+      Delivered says l word (record { own = party_at st drawn ordinals gss queues; other = other }) after
+  unfolding delivers
+  delivered says word other k new told f rest gs heard after front_is link did there heard_is short after_is =
+      let own = party_at st drawn ordinals gss queues in
+      let step = hears did.allowed l f.octets st word in
+      let ledgers : slice_get gss (l - 1) ≡ Some gs = lent-at gss at l gs is low (omega (arith, high, whole.ledgers)) there in
+      let found : slice_get queues (l - 1) ≡ Some (f ∷ rest) = waiting ∙ ap (λ queue. Some queue) front_is in
+      let same : step ≡ taken (λ question. did.allowed) l word f own = hears-answered did.allowed l f.octets st word in
+      record {
+        allowed = did.allowed;
+        said = subst (λ o. IfAsked says (asked_for_front l word o own) did.allowed) (sym found) did.said;
+        is = after_is
+            ∙ stepped-posted f.mark step st new drawn ordinals (set gss at heard) (set queues at rest) other told refl did.station did.sent
+            ∙ ap (λ p. posted f.mark step (record { own = p; other = other })) (heard-party st drawn ordinals gss queues l at word k f rest front gs heard is low ledgers waiting link heard_is)
+            ∙ ap (λ x. posted f.mark x (record { own = with_heard l word f rest (slice_get st.trunk.links (l - 1)) own; other = other })) same
+            ∙ ap (λ o. taking_front (λ question. did.allowed) l word o (record { own = own; other = other })) (sym found);
+        short = λ g behind there.
+            let both : Some (f ∷ rest) ≡ Some (g ∷ behind) = sym found ∙ there in
+            let one : f ≡ g = cc in
+            subst (λ g. AreShort (taken (λ question. did.allowed) l word g own).out.entries) one (subst (λ (x : Stepped). AreShort x.out.entries) same (subst (λ (o : Out). AreShort o.entries) did.sent short));
+      }
 
-pub no-front : (l at : ℕ) (own : Party) (f : Frame) (front rest : List Frame) → at ≡ l - 1 → 1 ≤ l → l ≤ length own.station.links → IsParty own →
-    front ≡ get_or own.incoming at front → front ≡ [] → slice_get own.incoming (l - 1) ≡ Some (f ∷ rest) → ⊥
-no-front l at own f front rest is low high whole lends none there =
-    let waiting : slice_get own.incoming (l - 1) ≡ Some front = lent-at own.incoming at l front is low (omega (arith, high, whole.incoming)) lends in
-    let both : Some [] ≡ Some (f ∷ rest) = sym (waiting ∙ ap (λ queue. Some queue) none) ∙ there in
-    cc
+  -- there was none
+  pub undelivered : (says : CallAsk → Bool → Type 0) (word : ℕ) (other : Party) (rest : List Frame) (after : Ends) → front ≡ [] → rest ≡ [] →
+      after ≡ record { own = party_at st drawn ordinals gss (set queues at rest); other = other } → Delivered says l word (record { own = party_at st drawn ordinals gss queues; other = other }) after
+  unfolding delivers
+  undelivered says word other rest after none left after_is =
+      let own = party_at st drawn ordinals gss queues in
+      let found : slice_get queues (l - 1) ≡ Some [] = waiting ∙ ap (λ queue. Some queue) none in
+      record {
+        allowed = false;
+        said = subst (λ o. IfAsked says (asked_for_front l word o own) false) (sym found) tt;
+        is = after_is
+            ∙ ap (λ queues. record { own = party_at st drawn ordinals gss queues; other = other }) (ap (set queues at) (left ∙ sym none) ∙ set-lent queues at front lends)
+            ∙ ap (λ o. taking_front (λ question. false) l word o (record { own = own; other = other })) (sym found);
+        short = λ g behind there. let both : Some [] ≡ Some (g ∷ behind) = sym found ∙ there in absurd (cc);
+      }
+    where
+      set-lent : (xs : List (List Frame)) (i : ℕ) (x : List Frame) → x ≡ get_or xs i x → set xs i x ≡ xs
+      set-lent xs i x lends = ap (set xs i) lends ∙ set-get_or xs i x
 
--- there is none
-pub undelivered : (l at word : ℕ) (own other : Party) (front rest : List Frame) → at ≡ l - 1 → 1 ≤ l → l ≤ length own.station.links → IsParty own → front ≡ get_or own.incoming at front → front ≡ [] → rest ≡ [] →
-    record { own = record { station = own.station; ledgers = own.ledgers; incoming = set own.incoming at rest }; other = other } ≡ delivers l word (record { own = own; other = other })
-unfolding delivers
-undelivered l at word own other front rest is low high whole lends none left =
-    let waiting : slice_get own.incoming (l - 1) ≡ Some front = lent-at own.incoming at l front is low (omega (arith, high, whole.incoming)) lends in
-    ap (λ queues. record { own = record { station = own.station; ledgers = own.ledgers; incoming = queues }; other = other }) (ap (set own.incoming at) (left ∙ sym none) ∙ set-lent own.incoming at front lends)
-    ∙ ap (λ o. taking_front l word o (record { own = own; other = other })) (sym (waiting ∙ ap (λ queue. Some queue) none))
-  where
-    set-lent : (xs : List (List Frame)) (i : ℕ) (x : List Frame) → x ≡ get_or xs i x → set xs i x ≡ xs
-    set-lent xs i x lends = ap (set xs i) lends ∙ set-get_or xs i x
-
--- a frame is lost
-pub lost : (l at place : ℕ) (own o : Party) (queue fewer : List Frame) → at ≡ l - 1 → 1 ≤ l → l ≤ length own.station.links → IsParty own → queue ≡ get_or own.incoming at queue → fewer ≡ without place queue →
-    record { own = record { station = own.station; ledgers = own.ledgers; incoming = set own.incoming at fewer }; other = o } ≡ loses l place (record { own = own; other = o })
-unfolding loses
-lost l at place own o queue fewer is low high whole lends fewer_is =
-    let waiting : slice_get own.incoming (l - 1) ≡ Some queue = lent-at own.incoming at l queue is low (omega (arith, high, whole.incoming)) lends in
-    ap (λ queues. record { own = record { station = own.station; ledgers = own.ledgers; incoming = queues }; other = o })
-    (ap (set own.incoming at) fewer_is ∙ ap (λ n. set own.incoming n (without place queue)) is ∙ sym (at-set (without place) own.incoming l queue low waiting))
+  -- a frame is lost
+  pub lost : (place : ℕ) (o : Party) (fewer : List Frame) → fewer ≡ without place front →
+      record { own = party_at st drawn ordinals gss (set queues at fewer); other = o } ≡ loses l place (record { own = party_at st drawn ordinals gss queues; other = o })
+  unfolding loses
+  lost place o fewer fewer_is =
+      ap (λ queues. record { own = party_at st drawn ordinals gss queues; other = o })
+      (ap (set queues at) fewer_is ∙ ap (λ n. set queues n (without place front)) is ∙ sym (at-set (without place) queues l front low waiting))
 
 -- ---- the oldest ordinal
 
-pub oldest : (l at n : ℕ) (p : Proto) (own other : Party) (queue back : List Frame) (answered found : ℕ) → at ≡ l - 1 → 1 ≤ l → l ≤ length own.station.links → l ≤ length other.station.links → IsParty own → IsParty other →
+pub oldest : (l at n : ℕ) (p : Proto) (own other : Party) (queue back : List Frame) (answered found : ℕ) → at ≡ l - 1 → 1 ≤ l → l ≤ length own.trunk.links → l ≤ length other.trunk.links → IsParty own → IsParty other →
     queue ≡ get_or own.incoming at queue → back ≡ get_or other.incoming at back → n ≡ sent_on l p own →
     answered ≡ least n (answers (only p queue)) → found ≡ least answered (requests (only p back)) → found ≡ oldest_on l p (record { own = own; other = other })
 oldest l at n p own other queue back answered found is low high wide whole others lends gives n_is answered_is found_is =
@@ -148,6 +189,21 @@ oldest l at n p own other queue back answered found is low high wide whole other
     ∙ ap (λ n. least n (requests (only p back))) (answered_is ∙ ap (λ n. least n (answers (only p queue))) n_is)
     ∙ least-behind (sent_on l p own) (requests (only p back)) (answers (only p queue))
     ∙ (λ i. least (sent_on l p own) (requests (only p (queue_if (sym sent i))) ++ answers (only p (queue_if (sym waiting i)))))
+
+-- the oldest of BAP, link by link
+pub oldest-next : (i : ℕ) (own other : Party) (queue back : List Frame) (answered mark : ℕ) (best : Oldest) → i < length own.trunk.links → length other.trunk.links ≡ length own.trunk.links → IsParty own → IsParty other →
+    queue ≡ get_or own.incoming i queue → back ≡ get_or other.incoming i back → answered ≡ least own.calls.drawn (bap_answers queue) → mark ≡ least answered (bap_requests back) →
+    best ≡ bap_oldest_to i (record { own = own; other = other }) → older best mark (suc i) ≡ bap_oldest_to (suc i) (record { own = own; other = other })
+oldest-next i own other queue back answered mark best less alike whole others lends gives answered_is mark_is best_is =
+    let is : i ≡ suc i - 1 = omega arith in
+    let waiting : slice_get own.incoming (suc i - 1) ≡ Some queue = lent-at own.incoming i (suc i) queue is (omega arith) (omega (arith, less, whole.incoming)) lends in
+    let sent : slice_get other.incoming (suc i - 1) ≡ Some back = lent-at other.incoming i (suc i) back is (omega arith) (omega (arith, less, alike, others.incoming)) gives in
+    let found : mark ≡ least own.calls.drawn (bap_marks_on (suc i) (record { own = own; other = other })) =
+    mark_is
+    ∙ ap (λ n. least n (bap_requests back)) answered_is
+    ∙ least-behind own.calls.drawn (bap_requests back) (bap_answers queue)
+    ∙ (λ k. least own.calls.drawn (bap_requests (queue_if (sym sent k)) ++ bap_answers (queue_if (sym waiting k)))) in
+    (λ k. older (best_is k) (found k) (suc i))
 
 -- ---- as an end begins
 
@@ -161,38 +217,49 @@ all-same y xs zs same = map-all y xs ∙ ap (λ n. replicate n y) same ∙ sym (
 pub all-begun : {Y Z : Type 0} (y : Y) (n : ℕ) (zs : List Z) → n ≡ length zs → replicate n y ≡ map (λ z. y) zs
 all-begun y n zs same = ap (λ n. replicate n y) same ∙ sym (map-all y zs)
 
-pub none-few : {X : Type 0} (xs : List X) → AllByRecursion (λ queue. length queue ≤ room) (map {B = List Frame} (λ x. []) xs)
+none-few : {X : Type 0} (xs : List X) → AllByRecursion (λ queue. length queue ≤ room) (map {B = List Frame} (λ x. []) xs)
 none-few [] = tt
 none-few (x ∷ xs) = (omega arith, none-few xs)
 
-pub whole-emptied : (f : Ledgers → Ledgers) (e : Party) (gss : List Ledgers) (queues : List (List Frame)) → IsParty e → gss ≡ map f e.ledgers → queues ≡ map (λ (queue : List Frame). []) e.incoming →
-    IsParty (record { station = e.station; ledgers = gss; incoming = queues })
-whole-emptied f e gss queues is changed emptied = record {
-  ledgers = ap length changed ∙ length-map e.ledgers f ∙ is.ledgers;
-  incoming = ap length emptied ∙ length-map e.incoming (λ (queue : List Frame). []) ∙ is.incoming;
-  few = subst AreRoomy (sym emptied) (none-few e.incoming);
+pub whole-emptied : (f : Ledgers → Ledgers) (st : Station) (drawn now : ℕ) (ordinals kept : List ℕ) (before gss : List Ledgers) (waiting queues : List (List Frame)) → IsParty (party_at st drawn ordinals before waiting) → length kept ≡ BUNDLES →
+    gss ≡ map f before → queues ≡ map (λ (queue : List Frame). []) waiting → IsParty (party_at st now kept gss queues)
+whole-emptied f st drawn now ordinals kept before gss waiting queues is many changed emptied = record {
+  station = is.station;
+  ordinals = many;
+  ledgers = ap length changed ∙ length-map before f ∙ is.ledgers;
+  incoming = ap length emptied ∙ length-map waiting (λ (queue : List Frame). []) ∙ is.incoming;
+  few = subst AreRoomy (sym emptied) (none-few waiting);
 }
 
-pub begun-emptied : (e : Party) (gss : List Ledgers) (queues : List (List Frame)) → IsParty e → gss ≡ map (λ (gs : Ledgers). ledgers_begun) e.ledgers → queues ≡ map (λ (queue : List Frame). []) e.incoming →
-    record { station = e.station; ledgers = gss; incoming = queues } ≡ party_begun e.station
-begun-emptied e gss queues is changed emptied =
-    (λ i. record {
-      station = e.station;
-      ledgers = (changed ∙ all-same ledgers_begun e.ledgers e.station.links is.ledgers) i;
-      incoming = (emptied ∙ all-same [] e.incoming e.station.links is.incoming) i;
-    })
+pub begun-emptied : (st : Station) (drawn : ℕ) (ordinals : List ℕ) (before gss : List Ledgers) (waiting queues : List (List Frame)) → IsParty (party_at st drawn ordinals before waiting) →
+    gss ≡ map (λ (gs : Ledgers). ledgers_begun) before → queues ≡ map (λ (queue : List Frame). []) waiting →
+    party_at st 0 (replicate BUNDLES 0) gss queues ≡ party_begun st
+begun-emptied st drawn ordinals before gss waiting queues is changed emptied =
+    (λ i. party_at st 0 (replicate BUNDLES 0)
+    ((changed ∙ all-same ledgers_begun before st.trunk.links is.ledgers) i)
+    ((emptied ∙ all-same [] waiting st.trunk.links is.incoming) i))
 
-pub begun-all : (st : Station) (n : ℕ) (gss : List Ledgers) (queues : List (List Frame)) → n ≡ length st.links → gss ≡ replicate n ledgers_begun → queues ≡ replicate {A = List Frame} n [] →
-    record { station = st; ledgers = gss; incoming = queues } ≡ party_begun st
+pub begun-all : (st : Station) (n : ℕ) (gss : List Ledgers) (queues : List (List Frame)) → n ≡ length st.trunk.links → gss ≡ replicate n ledgers_begun → queues ≡ replicate {A = List Frame} n [] →
+    party_at st 0 (replicate BUNDLES 0) gss queues ≡ party_begun st
 begun-all st n gss queues count ledgers incoming =
-    (λ i. record { station = st; ledgers = (ledgers ∙ all-begun ledgers_begun n st.links count) i; incoming = (incoming ∙ all-begun [] n st.links count) i })
+    (λ i. party_at st 0 (replicate BUNDLES 0) ((ledgers ∙ all-begun ledgers_begun n st.trunk.links count) i) ((incoming ∙ all-begun [] n st.trunk.links count) i))
+
+-- it is whole
+pub whole-begun : (st : Station) → IsStation st → IsParty (party_begun st)
+whole-begun st is = record {
+  station = is;
+  ordinals = refl;
+  ledgers = length-map st.trunk.links (λ (k : Link). ledgers_begun);
+  incoming = length-map st.trunk.links (λ (k : Link). []);
+  few = none-few st.trunk.links;
+}
 
 -- ---- an end begins anew
 
-pub rebooted : (word : ℕ) (own other empty begun now later : Party) (st : Station) → st ≡ station_anew own.station → begun ≡ party_begun st → empty ≡ cleared other →
-    record { own = later; other = now } ≡ downs (length empty.station.links) 1 word (record { own = empty; other = begun }) →
+pub rebooted : (word : ℕ) (own other empty begun now later : Party) (st : Station) → st ≡ station_anew (station_of own) → begun ≡ party_begun st → empty ≡ cleared other →
+    record { own = later; other = now } ≡ downs (length empty.trunk.links) 1 word (record { own = empty; other = begun }) →
     record { own = now; other = later } ≡ reboots word (record { own = own; other = other })
 unfolding reboots
 rebooted word own other empty begun now later st st_is begun_is empty_is is =
     ap turned is
-    ∙ (λ i. turned (downs (length ((empty_is i).station.links)) 1 word (record { own = empty_is i; other = (begun_is ∙ ap party_begun st_is) i })))
+    ∙ (λ i. turned (downs (length ((empty_is i).trunk.links)) 1 word (record { own = empty_is i; other = (begun_is ∙ ap party_begun st_is) i })))

@@ -1,5 +1,5 @@
 -- What is heard of a frame can be told from what the link lends of it.
-use Rattle.std.proofs.Common.{◌≡◌, ◌≤◌, ◌-◌, ℕ, Bool, true, false, if◌then◌else◌, List, [], ◌∷◌, ◌++◌, refl, sym, ap, subst, ◌∙◌}
+use Rattle.std.proofs.Common.{◌≡◌, ◌-◌, ℕ, Bool, true, false, if◌then◌else◌, List, [], ◌∷◌, ◌++◌, length, refl, sym, ap, subst, ◌∙◌}
 use Rattle.std.specs.Prelude.{◌==◌, ◌||◌, Option, Some, None, option_map, is_some, slice_get}
 use Rattle.ppp_auto.specs.Auto.{Auto, is_opened}
 use Rattle.ppp_auto.specs.Packet.{Packet, packet_of}
@@ -14,20 +14,19 @@ use Rattle.ppp_packet.specs.declared.proto.Proto.{Proto}
 use Rattle.ppp_packet.specs.declared.proto.Proto.TheVariants.{Lcp, Ip, Ipv6, Osi, Mpls, Bacp}
 use Rattle.ppp_auto.specs.declared.auto_event.AutoEvent.{AutoEvent}
 use Rattle.ppp_auto.specs.declared.auto_event.AutoEvent.TheVariants.{RejectedWell, RejectedBadly}
-use Rattle.ppp_station.specs.Orders.{Order, Commands, caps_after, is_same, of_frame, of_frame_for, of_given, of_other, of_packet, of_read, of_rejected, of_rejected_there, rejects_as}
-use Rattle.ppp_station.specs.Moves.{runs_of}
-use Rattle.ppp_station.specs.Station.{Station, on_link}
-use Rattle.ppp_station.specs.StationOut.{AreShort, Out}
-use Rattle.ppp_station.specs.Steps.{Takes}
-use Rattle.ppp_station.proofs.MovesLemmas.{moves-at}
-use Rattle.ppp_station.proofs.OrdersLemmas.{same-proto}
+use Rattle.ppp_trunk.specs.Orders.{Order, Commands, caps_after, is_same, of_frame, of_frame_for, of_given, of_other, of_packet, of_read, of_rejected, of_rejected_there, rejects_as}
+use Rattle.ppp_trunk.specs.Trunk.{IsOfLink}
+use Rattle.ppp_trunk.specs.StationOut.{AreShort, Out}
+use Rattle.ppp_station.specs.Station.{IsStation, Station, hears}
+use Rattle.ppp_station.proofs.KeptLemmas.{moved-octets}
+use Rattle.ppp_trunk.proofs.OrdersLemmas.{same-proto}
 use Rattle.ppp_party.specs.Frame.{Carried, Frame, carried_as, carried_by}
-use Rattle.ppp_party.specs.Heard.{heard_in, hears, is_let_in, ledgers_with, state_at, states_of}
+use Rattle.ppp_party.specs.Heard.{heard_in, hears as hears-noted, is_let_in, ledgers_with, state_at, states_of}
 use Rattle.ppp_party.specs.Ledger.{Ledger, Ledgers, heard, ledger_at, ledgers_by}
 use Rattle.ppp_party.specs.Party.{heard_by, heard_on, heard_packet}
 use Rattle.ppp_party.specs.declared.states.States.{States}
 use Rattle.ppp_party.proofs.PostLemmas.{number-some}
-use Rattle.ppp_party.proofs.SeatLemmas.{own-reads}
+use Rattle.ppp_party.proofs.CameLemmas.{step-lends}
 use Rattle.ppp_party.proofs.SendLemmas.{of-ledgers}
 
 -- ---- orders that bring nothing
@@ -107,7 +106,7 @@ hears-as gs mark q b a None = gs
 hears-as gs mark q b a (Some packet) = if b then ledgers_with gs q (heard_in (ledger_at gs q) (option_map (λ a. a.state) a) mark packet) else gs
 
 hears-is : (gs : Ledgers) (mark : ℕ) (q : Proto) (k : Automata) (o : Option Packet) →
-    hears gs (states_of k) mark (option_map (λ packet. record { proto = q; packet = packet }) o) ≡ hears-as gs mark q (is_let_in (states_of k) q) (auto_at k q) o
+    hears-noted gs (states_of k) mark (option_map (λ packet. record { proto = q; packet = packet }) o) ≡ hears-as gs mark q (is_let_in (states_of k) q) (auto_at k q) o
 hears-is gs mark q k None = refl
 hears-is gs mark q k (Some packet) = (λ i. if is_let_in (states_of k) q then ledgers_with gs q (heard_in (ledger_at gs q) (state-is k q i) mark packet) else gs)
 
@@ -137,7 +136,7 @@ as-heard gs mark p q t word number info k true (Some a) (Some packet) is reads =
     ∙ sym (with-at gs p q (heard (ledger_at gs q) a.state mark packet))
 
 number-heard : (gs : Ledgers) (mark : ℕ) (p : Proto) (t : LinkTables) (word number : ℕ) (info : List ℕ) (k : Automata) (o : Option Proto) → proto_of number ≡ o →
-    heard_by (ledger_at gs p) (auto_at k p) mark (of_frame p t word number info k) ≡ ledger_at (hears gs (states_of k) mark (carried_as o info)) p
+    heard_by (ledger_at gs p) (auto_at k p) mark (of_frame p t word number info k) ≡ ledger_at (hears-noted gs (states_of k) mark (carried_as o info)) p
 number-heard gs mark p t word number info k None is = by ((number == proto_number Lcp) || is_opened k.lcp.state)
   where
     by : (b : Bool) → heard_by (ledger_at gs p) (auto_at k p) mark (if b then of_frame_for p t word (there k (proto_of number)) number info k else []) ≡ ledger_at gs p
@@ -150,36 +149,36 @@ number-heard gs mark p t word number info k (Some q) is =
     ∙ ap (λ gs. ledger_at gs p) (sym (hears-is gs mark q k (packet_of info)))
 
 read-heard : (gs : Ledgers) (mark : ℕ) (p : Proto) (t : LinkTables) (word : ℕ) (k : Automata) (o : Option Read) →
-    heard_by (ledger_at gs p) (auto_at k p) mark (of_read p t word o k) ≡ ledger_at (hears gs (states_of k) mark (carried_by o)) p
+    heard_by (ledger_at gs p) (auto_at k p) mark (of_read p t word o k) ≡ ledger_at (hears-noted gs (states_of k) mark (carried_by o)) p
 read-heard gs mark p t word k None = refl
 read-heard gs mark p t word k (Some read) = number-heard gs mark p t word read.protocol read.info k (proto_of read.protocol) refl
 
 pub heard-lent : (k : Link) (f : Frame) (word : ℕ) (gs : Ledgers) →
-    heard_on k f word gs ≡ hears gs (states_of k.automata) f.mark (carried_by (feed_step (read_by k.automata.lcp k.deframer) f.octets).left.frame)
+    heard_on k f word gs ≡ hears-noted gs (states_of k.automata) f.mark (carried_by (feed_step (read_by k.automata.lcp k.deframer) f.octets).left.frame)
 heard-lent k f word gs =
     let read = (feed_step (read_by k.automata.lcp k.deframer) f.octets).left.frame in
     (λ i. ledgers_by (λ p. read-heard gs f.mark p k.tables word k.automata read i))
 
--- ---- what a link lends after its station's step
+-- ---- what a link lends after its trunk's step
 
 same-link : (o : Option Link) (j k : Link) → o ≡ Some j → o ≡ Some k → j ≡ k
 same-link o j k one other = let both : Some j ≡ Some k = sym one ∙ other in cc
 
 -- what the code hears is what is heard of the frame
-pub taken-heard : (k j after : Link) (f : Frame) (l word mark : ℕ) (st new : Station) (told : Out) (octets : List ℕ) (lender : DeframerState) (lent : Option Carried) (states : States) (gs now : Ledgers) → 1 ≤ l →
-    slice_get st.links (l - 1) ≡ Some k → slice_get st.links (l - 1) ≡ Some j → octets ≡ f.octets → new ≡ (on_link (Takes octets) l st word).station →
-    told ≡ (on_link (Takes octets) l st word).out → AreShort told.entries → slice_get new.links (l - 1) ≡ Some after →
-    lender ≡ after.deframer → lent ≡ carried_by lender.frame → states ≡ states_of j.automata → mark ≡ f.mark → now ≡ hears gs states mark lent → now ≡ heard_on k f word gs
-taken-heard k j after f l word mark st new told octets lender lent states gs now low there here octets_are new_is told_is short at lender_is lent_is states_are mark_is now_is =
-    let step = on_link (Takes octets) l st word in
-    let to = moves-at (Takes octets) l l word st k k low low there there (subst (λ (o : Out). AreShort o.entries) told_is short) in
-    let same = same-link (slice_get st.links (l - 1)) j k here there in
-    let own : slice_get new.links (l - 1) ≡ Some to.link = ap (λ (st : Station). slice_get st.links (l - 1)) new_is ∙ to.at in
-    let done = same-link (slice_get new.links (l - 1)) after to.link at own in
+pub taken-heard : (k j after : Link) (f : Frame) (l word mark : ℕ) (st new : Station) (told : Out) (octets : List ℕ) (allowed : Bool) (lender : DeframerState) (lent : Option Carried) (states : States) (gs now : Ledgers) →
+    IsStation st → IsOfLink (length st.trunk.links) l → slice_get st.trunk.links (l - 1) ≡ Some k → slice_get st.trunk.links (l - 1) ≡ Some j → octets ≡ f.octets →
+    new ≡ (hears allowed l octets st word).station → told ≡ (hears allowed l octets st word).out → AreShort told.entries → slice_get new.trunk.links (l - 1) ≡ Some after →
+    lender ≡ after.deframer → lent ≡ carried_by lender.frame → states ≡ states_of j.automata → mark ≡ f.mark → now ≡ hears-noted gs states mark lent → now ≡ heard_on k f word gs
+taken-heard k j after f l word mark st new told octets allowed lender lent states gs now well of there here octets_are new_is told_is short at lender_is lent_is states_are mark_is now_is =
+    let step = hears allowed l octets st word in
+    let to = step-lends l word st k octets step of.0 there (moved-octets allowed l word octets st well of) (subst (λ (o : Out). AreShort o.entries) told_is short) in
+    let same = same-link (slice_get st.trunk.links (l - 1)) j k here there in
+    let own : slice_get new.trunk.links (l - 1) ≡ Some to.link = ap (λ (st : Station). slice_get st.trunk.links (l - 1)) new_is ∙ to.at in
+    let done = same-link (slice_get new.trunk.links (l - 1)) after to.link at own in
     let lends : lender.frame ≡ (feed_step (read_by k.automata.lcp k.deframer) f.octets).left.frame =
     ap (λ (d : DeframerState). d.frame) (lender_is ∙ ap (λ (k : Link). k.deframer) done)
-    ∙ own-reads octets l word (runs_of (Takes octets) l st word) k to.link step.out.entries to.moves
+    ∙ to.reads
     ∙ ap (λ xs. (feed_step (read_by k.automata.lcp k.deframer) xs).left.frame) octets_are in
     now_is
-    ∙ (λ i. hears gs ((states_are ∙ ap (λ (k : Link). states_of k.automata) same) i) (mark_is i) ((lent_is ∙ ap carried_by lends) i))
+    ∙ (λ i. hears-noted gs ((states_are ∙ ap (λ (k : Link). states_of k.automata) same) i) (mark_is i) ((lent_is ∙ ap carried_by lends) i))
     ∙ sym (heard-lent k f word gs)

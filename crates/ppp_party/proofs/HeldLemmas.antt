@@ -1,29 +1,32 @@
 -- What holds of a protocol on a link in each state of a world, by an event at either end.
-use Rattle.std.proofs.Common.{◌≡◌, ℕ, ◌-◌, ◌≤◌, List, [], ◌∷◌, length, refl, sym, ap, subst, ◌∙◌, inl, inr, arith}
+use Rattle.std.proofs.Common.{◌≡◌, ℕ, ◌-◌, ◌≤◌, Bool, [], length, refl, sym, ap, subst, ◌∙◌, inl, inr, arith}
 use Rattle.std.specs.Prelude.{Option, Some, None, option_map, slice_get}
 use Rattle.ppp_auto.specs.Auto.{Auto}
-use Rattle.ppp_duet.specs.Duet.{Setup, without}
+use Rattle.ppp_bap.specs.declared.bap_ask.BapAsk.{BapAsk}
+use Rattle.ppp_bap.specs.declared.call_ask.CallAsk.{CallAsk}
+use Rattle.ppp_duet.specs.Duet.{End, Setup, without}
 use Rattle.ppp_duet.specs.Span.{Narrow, widest}
 use Rattle.ppp_duet.proofs.Queues.{by_request, marks_without}
 use Rattle.ppp_packet.specs.declared.proto.Proto.{Proto}
 use Rattle.ppp_link.specs.Automata.{auto_at, automata_begun}
 use Rattle.ppp_link.specs.Link.{Link}
 use Rattle.ppp_link.specs.LinkTables.{LinkTables, table_of}
-use Rattle.ppp_station.specs.Station.{Station, IsBegun, link_ready, on_link, station_anew}
-use Rattle.ppp_station.specs.StationOut.{AreShort}
-use Rattle.ppp_station.specs.Steps.{Happening, Takes}
+use Rattle.ppp_trunk.specs.Trunk.{IsBegun, IsOfLink, link_ready, trunk_anew}
+use Rattle.ppp_trunk.specs.StationOut.{AreShort}
+use Rattle.ppp_trunk.specs.Steps.{Happening}
+use Rattle.ppp_station.specs.Station.{IsStation, Station, asks_peer, moves, tells_peer, tries_again}
 use Rattle.ppp_party.specs.Downs.{AllShortDowns}
-use Rattle.ppp_party.specs.Frame.{Frame, only}
+use Rattle.ppp_party.specs.Frame.{only}
 use Rattle.ppp_party.specs.Held.{HeldAfter, IsHeld, IsLone}
 use Rattle.ppp_party.specs.Kept.{Kept, duet_of}
 use Rattle.ppp_party.specs.Ledger.{Ledger, end_of, first_id, ledger_at}
-use Rattle.ppp_party.specs.Party.{Ends, delivers, downs, ends_begun, happens, loses, reboots, turned}
-use Rattle.ppp_party.specs.Seat.{Came, IsNoFrame, IsSpoken, Seat, SeatAt}
+use Rattle.ppp_party.specs.Party.{Ends, IsShortDelivery, asks, delivers, downs, ends_begun, happens, loses, reboots, station_of, tells, tries, turned}
+use Rattle.ppp_party.specs.Seat.{Came, IsNoFrame, IsSeated, IsSpoken, Seat, SeatAt}
 use Rattle.ppp_party.specs.Spans.{NarrowOn, ledger_if, sent_on}
-use Rattle.ppp_party.proofs.KeptLemmas.{IsSame, begins-kept, came-kept, delivers-same, happens-same, loses-same, other-at, other_with, queues-at, reboots-kept, turned-kept}
-use Rattle.ppp_party.proofs.LoneLemmas.{Becomes, Goes, GoesDown, delivers-goes, downs-goes, happens-goes, loses-goes}
+use Rattle.ppp_party.proofs.CameLemmas.{asks-came, delivers-came, happens-came, loses-came, tells-came, tries-came}
+use Rattle.ppp_party.proofs.KeptLemmas.{IsSame, asks-same, begins-kept, came-kept, delivers-same, happens-same, loses-same, tells-same, tries-same, other-at, other_with, queues-at, reboots-kept, turned-kept}
+use Rattle.ppp_party.proofs.LoneLemmas.{Becomes, Goes, GoesDown, asks-goes, delivers-goes, downs-goes, happens-goes, loses-goes, tells-goes, tries-goes}
 use Rattle.ppp_party.proofs.RebootLemmas.{begun-at, begun-ready, mapped-there, opened_anew, ready-auto, ready-tables, seat-begun, seat_begun, silenced, silenced-at, stilled, unheard-at}
-use Rattle.ppp_party.proofs.SeatLemmas.{delivers-came, happens-came, loses-came}
 use Rattle.ppp_party.proofs.SpansLemmas.{AreNear, duet-narrow, makes-narrow, narrow-duet, near-span, own-sent, seat-spans, span-near, span-none}
 
 -- ---- both ends
@@ -128,39 +131,56 @@ lone-other-after m p e after h narrow goes =
 
 -- ---- the steps
 
-pub happens-held : (what : Happening) (l m : ℕ) (p : Proto) (word : ℕ) (e : Ends) (k : Link) → 1 ≤ l → 1 ≤ m → slice_get e.own.station.links (l - 1) ≡ Some k → IsNoFrame what → AreShort (on_link what l e.own.station word).out.entries →
-    NarrowOn m p e → IsHeld m p e → HeldAfter m p e (happens what l word e)
-happens-held what l m p word e k low least there none short narrow (inl on) =
+-- an event of the first end that is a list of the two ends' events where both speak the protocol, and leaves a link as it may
+step-held : (m : ℕ) (p : Proto) (e after : Ends) → IsSame e after →
+    ((sa sb : Setup) (s : Seat) (a : Auto) (b : End) → IsSeated sa p m e s a → Came sa sb p m s a b after) → ((s : Seat) → SeatAt m e s → Goes m p e s after) →
+    NarrowOn m p e → IsHeld m p e → HeldAfter m p e after
+step-held m p e after same came goes narrow (inl on) =
     let h = on.kept in
-    let seated = h.own_seated in
-    kept-after on.own_setup on.other_setup m p e (happens what l word e) h narrow (happens-same what l word e)
-    (happens-came on.own_setup on.other_setup p what l m word e h.own k h.own_auto (end_of h.other_auto (ledger_at h.other.ledgers p)) low least there none short seated)
-happens-held what l m p word e k low least there none short narrow (inr (inl h)) =
-    lone-own-after m p e (happens what l word e) h narrow (happens-goes p what l m word e h.own k low least there short h.own_at)
-happens-held what l m p word e k low least there none short narrow (inr (inr h)) =
-    lone-other-after m p e (happens what l word e) h narrow (happens-goes p what l m word e h.other k low least there short h.other_at)
+    kept-after on.own_setup on.other_setup m p e after h narrow same (came on.own_setup on.other_setup h.own h.own_auto (end_of h.other_auto (ledger_at h.other.ledgers p)) h.own_seated)
+step-held m p e after same came goes narrow (inr (inl h)) = lone-own-after m p e after h narrow (goes h.own h.own_at)
+step-held m p e after same came goes narrow (inr (inr h)) = lone-other-after m p e after h narrow (goes h.other h.other_at)
 
-pub delivers-held : (l m : ℕ) (p : Proto) (word : ℕ) (e : Ends) (k : Link) → 1 ≤ l → 1 ≤ m → slice_get e.own.station.links (l - 1) ≡ Some k →
-    ((f : Frame) (rest : List Frame) → slice_get e.own.incoming (l - 1) ≡ Some (f ∷ rest) → AreShort (on_link (Takes f.octets) l e.own.station word).out.entries) →
-    NarrowOn m p e → IsHeld m p e → HeldAfter m p e (delivers l word e)
-delivers-held l m p word e k low least there short narrow (inl on) =
-    let h = on.kept in
-    let seated = h.own_seated in
-    kept-after on.own_setup on.other_setup m p e (delivers l word e) h narrow (delivers-same l word e)
-    (delivers-came on.own_setup on.other_setup p l m word e h.own k h.own_auto (end_of h.other_auto (ledger_at h.other.ledgers p)) low least there short seated)
-delivers-held l m p word e k low least there short narrow (inr (inl h)) =
-    lone-own-after m p e (delivers l word e) h narrow (delivers-goes p l m word e h.own k low least there short h.own_at)
-delivers-held l m p word e k low least there short narrow (inr (inr h)) =
-    lone-other-after m p e (delivers l word e) h narrow (delivers-goes p l m word e h.other k low least there short h.other_at)
+pub happens-held : (what : Happening) (l m : ℕ) (p : Proto) (word : ℕ) (e : Ends) → IsOfLink (length e.own.trunk.links) l → 1 ≤ m → IsNoFrame what → AreShort (moves what l (station_of e.own) word).out.entries →
+    NarrowOn m p e → IsHeld m p e → HeldAfter m p e (happens what l word e)
+happens-held what l m p word e of least quiet short =
+    step-held m p e (happens what l word e) (happens-same what l word e)
+    (λ sa sb s a b seated. happens-came sa sb p what l m word e s a b of least quiet short seated)
+    (λ s at. happens-goes p what l m word e s of least short at)
+
+pub delivers-held : (says : CallAsk → Bool) (l m : ℕ) (p : Proto) (word : ℕ) (e : Ends) → IsStation (station_of e.own) → IsOfLink (length e.own.trunk.links) l → 1 ≤ m →
+    IsShortDelivery says l word e.own → NarrowOn m p e → IsHeld m p e → HeldAfter m p e (delivers says l word e)
+delivers-held says l m p word e well of least short =
+    step-held m p e (delivers says l word e) (delivers-same says l word e)
+    (λ sa sb s a b seated. delivers-came sa sb p says l m word e s a b well of least short seated)
+    (λ s at. delivers-goes p says l m word e s well of least short at)
+
+pub asks-held : (what : BapAsk) (l m : ℕ) (p : Proto) (word : ℕ) (e : Ends) → IsStation (station_of e.own) → IsOfLink (length e.own.trunk.links) l → 1 ≤ m →
+    AreShort (asks_peer l what (station_of e.own) word).out.entries → NarrowOn m p e → IsHeld m p e → HeldAfter m p e (asks l what word e)
+asks-held what l m p word e well of least short =
+    step-held m p e (asks l what word e) (asks-same what l word e)
+    (λ sa sb s a b seated. asks-came sa sb p what l m word e s a b well of least short seated)
+    (λ s at. asks-goes p what l m word e s well of least short at)
+
+pub tells-held : (status l m : ℕ) (p : Proto) (word : ℕ) (e : Ends) → IsStation (station_of e.own) → IsOfLink (length e.own.trunk.links) l → 1 ≤ m →
+    AreShort (tells_peer l status (station_of e.own) word).out.entries → NarrowOn m p e → IsHeld m p e → HeldAfter m p e (tells l status word e)
+tells-held status l m p word e well of least short =
+    step-held m p e (tells l status word e) (tells-same status l word e)
+    (λ sa sb s a b seated. tells-came sa sb p status l m word e s a b well of least short seated)
+    (λ s at. tells-goes p status l m word e s well of least short at)
+
+pub tries-held : (l m : ℕ) (p : Proto) (word : ℕ) (e : Ends) → IsStation (station_of e.own) → IsOfLink (length e.own.trunk.links) l → 1 ≤ m →
+    AreShort (tries_again l (station_of e.own) word).out.entries → NarrowOn m p e → IsHeld m p e → HeldAfter m p e (tries l word e)
+tries-held l m p word e well of least short =
+    step-held m p e (tries l word e) (tries-same l word e)
+    (λ sa sb s a b seated. tries-came sa sb p l m word e s a b well of least short seated)
+    (λ s at. tries-goes p l m word e s well of least short at)
 
 pub loses-held : (l m place : ℕ) (p : Proto) (e : Ends) → 1 ≤ l → 1 ≤ m → NarrowOn m p e → IsHeld m p e → HeldAfter m p e (loses l place e)
-loses-held l m place p e low least narrow (inl on) =
-    let h = on.kept in
-    let seated = h.own_seated in
-    kept-after on.own_setup on.other_setup m p e (loses l place e) h narrow (loses-same l place e)
-    (loses-came on.own_setup on.other_setup p l m place e h.own h.own_auto (end_of h.other_auto (ledger_at h.other.ledgers p)) low least seated)
-loses-held l m place p e low least narrow (inr (inl h)) = lone-own-after m p e (loses l place e) h narrow (loses-goes p l m place e h.own low least h.own_at)
-loses-held l m place p e low least narrow (inr (inr h)) = lone-other-after m p e (loses l place e) h narrow (loses-goes p l m place e h.other low least h.other_at)
+loses-held l m place p e low least =
+    step-held m p e (loses l place e) (loses-same l place e)
+    (λ sa sb s a b seated. loses-came sa sb p l m place e s a b low least seated)
+    (λ s at. loses-goes p l m place e s low least at)
 
 pub turned-held : (m : ℕ) (p : Proto) (e : Ends) → IsHeld m p e → IsHeld m p (turned e)
 turned-held m p e (inl on) = inl (record { own_setup = on.other_setup; other_setup = on.own_setup; kept = turned-kept on.own_setup on.other_setup p m e on.kept })
@@ -182,13 +202,13 @@ unfolding setup-of
 begun-spoken t p a is = record { first = refl; table = refl; auto = a; there = is }
 
 -- the link of the second isn't configured for it
-lone-begun : (m : ℕ) (p : Proto) (own other : Station) (k j : Link) → slice_get own.links (m - 1) ≡ Some k → slice_get other.links (m - 1) ≡ Some j → IsBegun own → IsBegun other →
+lone-begun : (m : ℕ) (p : Proto) (own other : Station) (k j : Link) → slice_get own.trunk.links (m - 1) ≡ Some k → slice_get other.trunk.links (m - 1) ≡ Some j → IsBegun own.trunk → IsBegun other.trunk →
     auto_at (automata_begun j.tables) p ≡ None → IsLone m p (ends_begun own other)
 lone-begun m p own other k j there here ready steady none = record {
   own = seat_begun k.tables [];
   other = seat_begun j.tables [];
-  own_at = seat-begun m own other k j there here (begun-ready m own k ready there);
-  other_at = seat-begun m other own j k here there (begun-ready m other j steady here);
+  own_at = seat-begun m own other k j there here (begun-ready m own.trunk k ready there);
+  other_at = seat-begun m other own j k here there (begun-ready m other.trunk j steady here);
   few_out = omega arith;
   few_in = omega arith;
   silent = none-ready j.tables p none;
@@ -197,7 +217,7 @@ lone-begun m p own other k j there here ready steady none = record {
   none_under_way = refl;
 }
 
-begins-by : (m : ℕ) (p : Proto) (own other : Station) (k j : Link) → slice_get own.links (m - 1) ≡ Some k → slice_get other.links (m - 1) ≡ Some j → IsBegun own → IsBegun other →
+begins-by : (m : ℕ) (p : Proto) (own other : Station) (k j : Link) → slice_get own.trunk.links (m - 1) ≡ Some k → slice_get other.trunk.links (m - 1) ≡ Some j → IsBegun own.trunk → IsBegun other.trunk →
     (a b : Option Auto) → auto_at (automata_begun k.tables) p ≡ a → auto_at (automata_begun j.tables) p ≡ b → IsHeld m p (ends_begun own other)
 begins-by m p own other k j there here ready steady (Some a) (Some b) is one =
     let sa = setup-of k.tables p in
@@ -206,7 +226,7 @@ begins-by m p own other k j there here ready steady (Some a) (Some b) is one =
 begins-by m p own other k j there here ready steady None (Some b) is one = inr (inr (lone-begun m p other own j k here there steady ready is))
 begins-by m p own other k j there here ready steady a None is one = inr (inl (lone-begun m p own other k j there here ready steady one))
 
-pub begins-held : (m : ℕ) (p : Proto) (own other : Station) (k j : Link) → 1 ≤ m → slice_get own.links (m - 1) ≡ Some k → slice_get other.links (m - 1) ≡ Some j → IsBegun own → IsBegun other →
+pub begins-held : (m : ℕ) (p : Proto) (own other : Station) (k j : Link) → 1 ≤ m → slice_get own.trunk.links (m - 1) ≡ Some k → slice_get other.trunk.links (m - 1) ≡ Some j → IsBegun own.trunk → IsBegun other.trunk →
     IsHeld m p (ends_begun own other)
 begins-held m p own other k j least there here ready steady = begins-by m p own other k j there here ready steady _ _ refl refl
 
@@ -215,21 +235,21 @@ begins-held m p own other k j least there here ready steady = begins-by m p own 
 -- the end itself
 begun-at-other : (m : ℕ) (e : Ends) (s o : Seat) → SeatAt m e s → SeatAt m (turned e) o → SeatAt m (turned (stilled e)) (seat_begun s.link.tables [])
 begun-at-other m e s o own other =
-    let there = mapped-there (λ k. link_ready k.tables) e.own.station.links (m - 1) s.link own.link in
+    let there = mapped-there (λ k. link_ready k.tables) e.own.trunk.links (m - 1) s.link own.link in
     record {
       link = there;
-      ledgers = mapped-there _ (station_anew e.own.station).links (m - 1) (link_ready s.link.tables) there;
-      incoming = mapped-there _ (station_anew e.own.station).links (m - 1) (link_ready s.link.tables) there;
+      ledgers = mapped-there _ (trunk_anew e.own.trunk).links (m - 1) (link_ready s.link.tables) there;
+      incoming = mapped-there _ (trunk_anew e.own.trunk).links (m - 1) (link_ready s.link.tables) there;
       outgoing = mapped-there (λ queue. []) e.other.incoming (m - 1) o.incoming other.incoming;
     }
 
 -- what the other end's link comes to when its lines have gone down
-has-downs : (m word : ℕ) (p : Proto) (e : Ends) (s o : Seat) → 1 ≤ m → AllShortDowns word e.other.station → SeatAt m e s → SeatAt m (turned e) o →
-    GoesDown m p (stilled e) (silenced o) (downs (length e.other.station.links) 1 word (stilled e))
-has-downs m word p e s o least short own other = downs-goes p (length e.other.station.links) 1 m word (stilled e) (silenced o) (omega arith) least (omega arith) short (silenced-at m e s o own other)
+has-downs : (m word : ℕ) (p : Proto) (e : Ends) (s o : Seat) → 1 ≤ m → AllShortDowns word (station_of e.other) → SeatAt m e s → SeatAt m (turned e) o →
+    GoesDown m p (stilled e) (silenced o) (downs (length e.other.trunk.links) 1 word (stilled e))
+has-downs m word p e s o least short own other = downs-goes p (length e.other.trunk.links) 1 m word (stilled e) (silenced o) (omega arith) least (omega arith) short (silenced-at m e s o own other)
 
 -- the other end doesn't speak it: it is still so when its lines have gone down
-reboots-own : (m : ℕ) (p : Proto) (word : ℕ) (e : Ends) → 1 ≤ m → AllShortDowns word e.other.station → IsLone m p e → IsLone m p (reboots word e)
+reboots-own : (m : ℕ) (p : Proto) (word : ℕ) (e : Ends) → 1 ≤ m → AllShortDowns word (station_of e.other) → IsLone m p e → IsLone m p (reboots word e)
 unfolding reboots
 reboots-own m p word e least short h =
     let downs = has-downs m word p e h.own h.other least short h.own_at h.other_at in
@@ -248,7 +268,7 @@ reboots-own m p word e least short h =
     lone-other m p (stilled e) _ before downs.new downs.at downs.becomes downs.same
 
 -- the end that begins anew doesn't speak it
-reboots-other : (m : ℕ) (p : Proto) (word : ℕ) (e : Ends) → 1 ≤ m → AllShortDowns word e.other.station → IsLone m p (turned e) → IsLone m p (turned (reboots word e))
+reboots-other : (m : ℕ) (p : Proto) (word : ℕ) (e : Ends) → 1 ≤ m → AllShortDowns word (station_of e.other) → IsLone m p (turned e) → IsLone m p (turned (reboots word e))
 unfolding reboots
 reboots-other m p word e least short h =
     let downs = has-downs m word p e h.other h.own least short h.other_at h.own_at in
@@ -267,7 +287,7 @@ reboots-other m p word e least short h =
     } in
     lone-own m p (stilled e) _ before downs.new downs.at downs.becomes downs.same
 
-pub reboots-held : (m : ℕ) (p : Proto) (word : ℕ) (e : Ends) → 1 ≤ m → AllShortDowns word e.other.station → IsHeld m p e → IsHeld m p (reboots word e)
+pub reboots-held : (m : ℕ) (p : Proto) (word : ℕ) (e : Ends) → 1 ≤ m → AllShortDowns word (station_of e.other) → IsHeld m p e → IsHeld m p (reboots word e)
 reboots-held m p word e least short (inl on) = inl (record { own_setup = on.own_setup; other_setup = on.other_setup; kept = reboots-kept on.own_setup on.other_setup p m word e on.kept least short })
 reboots-held m p word e least short (inr (inl h)) = inr (inl (reboots-own m p word e least short h))
 reboots-held m p word e least short (inr (inr h)) = inr (inr (reboots-other m p word e least short h))

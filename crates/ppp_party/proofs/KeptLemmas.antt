@@ -1,6 +1,8 @@
 -- What is kept of the two ends of a protocol on a link, by an event at either end.
-use Rattle.std.proofs.Common.{◌≡◌, ℕ, ◌-◌, ◌≤◌, List, [], ◌∷◌, length, map, refl, sym, ap, subst, ◌∙◌, arith}
+use Rattle.std.proofs.Common.{◌≡◌, ℕ, ◌-◌, ◌≤◌, Bool, List, [], ◌∷◌, length, map, refl, sym, ap, subst, ◌∙◌, arith}
 use Rattle.std.specs.Prelude.{Option, Some, None, slice_get}
+use Rattle.ppp_bap.specs.declared.bap_ask.BapAsk.{BapAsk}
+use Rattle.ppp_bap.specs.declared.call_ask.CallAsk.{CallAsk}
 use Rattle.ppp_duet.specs.Duet as duet
 use Rattle.ppp_duet.specs.Duet.{Duet, Event, Happening, Setup, start}
 use Rattle.ppp_duet.specs.NarrowRun.{IsNarrowWhereTaken, NarrowIfTaken}
@@ -9,19 +11,20 @@ use Rattle.ppp_duet.specs.Span.{Narrow}
 use Rattle.ppp_duet.proofs.ReachedLemmas.{reached_more, reached_on, reached_start}
 use Rattle.ppp_packet.specs.declared.proto.Proto.{Proto}
 use Rattle.ppp_link.specs.Link.{Link}
-use Rattle.ppp_station.specs.Phases.{IsStation}
-use Rattle.ppp_station.specs.Station.{Station, IsBegun, on_link}
-use Rattle.ppp_station.specs.StationOut.{AreShort}
-use Rattle.ppp_station.specs.Steps.{Happening as Happens, Takes}
+use Rattle.ppp_trunk.specs.Phases.{IsTrunk}
+use Rattle.ppp_trunk.specs.Trunk.{Trunk, IsBegun, IsOfLink}
+use Rattle.ppp_trunk.specs.StationOut.{AreShort}
+use Rattle.ppp_trunk.specs.Steps.{Happening as Happens}
+use Rattle.ppp_station.specs.Station.{IsStation, Station, asks_peer, moves, tells_peer, tries_again}
 use Rattle.ppp_party.specs.Downs.{AllShortDowns}
 use Rattle.ppp_party.specs.Events.{DeliversFirst, AreCaused, IsCaused, Leads, Makes}
 use Rattle.ppp_party.specs.Frame.{Frame, only}
 use Rattle.ppp_party.specs.Kept.{Kept, duet_of}
 use Rattle.ppp_party.specs.Ledger.{end_of, ledger_at}
-use Rattle.ppp_party.specs.Party.{Ends, delivers, ends_begun, happens, loses, reboots, taking_front, turned}
+use Rattle.ppp_party.specs.Party.{Ends, IsShortDelivery, asks, delivers, ends_begun, happens, loses, reboots, station_of, taking_front, tells, tries, turned}
 use Rattle.ppp_party.specs.Seat.{Anew, Came, IsNoFrame, IsSpoken, Seat, SeatAt, rebooted}
+use Rattle.ppp_party.proofs.CameLemmas.{asks-came, delivers-came, happens-came, loses-came, tells-came, tries-came}
 use Rattle.ppp_party.proofs.RebootLemmas.{begins-came, flip-one, flip-run, flipped, reboots-came}
-use Rattle.ppp_party.proofs.SeatLemmas.{delivers-came, happens-came, loses-came}
 
 -- ---- states that are led to
 
@@ -48,18 +51,18 @@ reached-makes sa sb a b narrow makes reached = subst (Reached sa sb) makes.leads
 
 -- its link and its ledgers stay, and what is under way to it is what goes out
 pub record IsSame (before after : Ends) : Type 0 where
-  pub station : after.other.station ≡ before.other.station
+  pub trunk : after.other.trunk ≡ before.other.trunk
   pub ledgers : after.other.ledgers ≡ before.other.ledgers
 
 pub same-then : (a b c : Ends) → IsSame a b → IsSame b c → IsSame a c
-same-then a b c one two = record { station = two.station ∙ one.station; ledgers = two.ledgers ∙ one.ledgers }
+same-then a b c one two = record { trunk = two.trunk ∙ one.trunk; ledgers = two.ledgers ∙ one.ledgers }
 
 abbrev pub other_with : Seat → Seat → Seat
 other_with o s = record { link = o.link; ledgers = o.ledgers; incoming = s.outgoing; outgoing = s.incoming }
 
 pub other-at : (m : ℕ) (before after : Ends) (o s : Seat) → IsSame before after → SeatAt m (turned before) o → SeatAt m after s → SeatAt m (turned after) (other_with o s)
 other-at m before after o s same was at = record {
-  link = ap (λ (st : Station). slice_get st.links (m - 1)) same.station ∙ was.link;
+  link = ap (λ (st : Trunk). slice_get st.links (m - 1)) same.trunk ∙ was.link;
   ledgers = ap (λ gs. slice_get gs (m - 1)) same.ledgers ∙ was.ledgers;
   incoming = at.outgoing;
   outgoing = at.incoming;
@@ -102,7 +105,7 @@ came-made sa sb p m before after k same narrow came =
         other_auto = k.other_auto;
         own_seated = came.seated;
         other_seated = record {
-          station = subst IsStation (sym same.station) k.other_seated.station;
+          trunk = subst IsTrunk (sym same.trunk) k.other_seated.trunk;
           at = other-at m before after k.other came.seat same k.other_seated.at came.seated.at;
           well = record {
             settled = k.other_seated.well.settled;
@@ -179,60 +182,82 @@ turned-kept sa sb p m e k =
 
 pub happens-same : (what : Happens) (l word : ℕ) (e : Ends) → IsSame e (happens what l word e)
 unfolding happens
-happens-same what l word e = record { station = refl; ledgers = refl }
+happens-same what l word e = record { trunk = refl; ledgers = refl }
 
-front-same : (l word : ℕ) (o : Option (List Frame)) (e : Ends) → IsSame e (taking_front l word o e)
-front-same l word None e = record { station = refl; ledgers = refl }
-front-same l word (Some []) e = record { station = refl; ledgers = refl }
-front-same l word (Some (f ∷ rest)) e = record { station = refl; ledgers = refl }
+front-same : (says : CallAsk → Bool) (l word : ℕ) (o : Option (List Frame)) (e : Ends) → IsSame e (taking_front says l word o e)
+front-same says l word None e = record { trunk = refl; ledgers = refl }
+front-same says l word (Some []) e = record { trunk = refl; ledgers = refl }
+front-same says l word (Some (f ∷ rest)) e = record { trunk = refl; ledgers = refl }
 
-pub delivers-same : (l word : ℕ) (e : Ends) → IsSame e (delivers l word e)
+pub delivers-same : (says : CallAsk → Bool) (l word : ℕ) (e : Ends) → IsSame e (delivers says l word e)
 unfolding delivers
-delivers-same l word e = front-same l word (slice_get e.own.incoming (l - 1)) e
+delivers-same says l word e = front-same says l word (slice_get e.own.incoming (l - 1)) e
+
+pub asks-same : (what : BapAsk) (l word : ℕ) (e : Ends) → IsSame e (asks l what word e)
+unfolding asks
+asks-same what l word e = record { trunk = refl; ledgers = refl }
+
+pub tells-same : (status l word : ℕ) (e : Ends) → IsSame e (tells l status word e)
+unfolding tells
+tells-same status l word e = record { trunk = refl; ledgers = refl }
+
+pub tries-same : (l word : ℕ) (e : Ends) → IsSame e (tries l word e)
+unfolding tries
+tries-same l word e = record { trunk = refl; ledgers = refl }
 
 pub loses-same : (l place : ℕ) (e : Ends) → IsSame e (loses l place e)
 unfolding loses
-loses-same l place e = record { station = refl; ledgers = refl }
+loses-same l place e = record { trunk = refl; ledgers = refl }
 
-pub begins-kept : (sa sb : Setup) (p : Proto) (m : ℕ) (own other : Station) (k j : Link) → slice_get own.links (m - 1) ≡ Some k → slice_get other.links (m - 1) ≡ Some j →
-    IsBegun own → IsBegun other → IsSpoken sa p k.tables → IsSpoken sb p j.tables → Kept sa sb p m (ends_begun own other)
+pub begins-kept : (sa sb : Setup) (p : Proto) (m : ℕ) (own other : Station) (k j : Link) → slice_get own.trunk.links (m - 1) ≡ Some k → slice_get other.trunk.links (m - 1) ≡ Some j →
+    IsBegun own.trunk → IsBegun other.trunk → IsSpoken sa p k.tables → IsSpoken sb p j.tables → Kept sa sb p m (ends_begun own other)
 begins-kept sa sb p m own other k j there here ready steady spoken heard =
     (anew-led sa sb p m (start sa sb) _ (reached_start sa sb) (begins-came sa sb p m own other k j there here ready steady spoken heard)).kept
 
-pub happens-made : (sa sb : Setup) (p : Proto) (what : Happens) (l m word : ℕ) (e : Ends) (j : Link) (k : Kept sa sb p m e) → 1 ≤ l → 1 ≤ m → Narrow (duet_of k) → slice_get e.own.station.links (l - 1) ≡ Some j →
-    IsNoFrame what → AreShort (on_link what l e.own.station word).out.entries → MadeFrom sa sb p m (duet_of k) (happens what l word e)
-happens-made sa sb p what l m word e j k low least narrow there quiet short =
+pub happens-made : (sa sb : Setup) (p : Proto) (what : Happens) (l m word : ℕ) (e : Ends) (k : Kept sa sb p m e) → IsOfLink (length e.own.trunk.links) l → 1 ≤ m → Narrow (duet_of k) →
+    IsNoFrame what → AreShort (moves what l (station_of e.own) word).out.entries → MadeFrom sa sb p m (duet_of k) (happens what l word e)
+happens-made sa sb p what l m word e k of least narrow quiet short =
     came-made sa sb p m e _ k (happens-same what l word e) narrow
-    (happens-came sa sb p what l m word e k.own j k.own_auto (end_of k.other_auto (ledger_at k.other.ledgers p)) low least there quiet short k.own_seated)
+    (happens-came sa sb p what l m word e k.own k.own_auto (end_of k.other_auto (ledger_at k.other.ledgers p)) of least quiet short k.own_seated)
 
-pub delivers-made : (sa sb : Setup) (p : Proto) (l m word : ℕ) (e : Ends) (j : Link) (k : Kept sa sb p m e) → 1 ≤ l → 1 ≤ m → Narrow (duet_of k) → slice_get e.own.station.links (l - 1) ≡ Some j →
-    ((f : Frame) (rest : List Frame) → slice_get e.own.incoming (l - 1) ≡ Some (f ∷ rest) → AreShort (on_link (Takes f.octets) l e.own.station word).out.entries) → MadeFrom sa sb p m (duet_of k) (delivers l word e)
-delivers-made sa sb p l m word e j k low least narrow there short =
-    came-made sa sb p m e _ k (delivers-same l word e) narrow
-    (delivers-came sa sb p l m word e k.own j k.own_auto (end_of k.other_auto (ledger_at k.other.ledgers p)) low least there short k.own_seated)
+pub delivers-made : (sa sb : Setup) (p : Proto) (says : CallAsk → Bool) (l m word : ℕ) (e : Ends) (k : Kept sa sb p m e) → IsStation (station_of e.own) → IsOfLink (length e.own.trunk.links) l → 1 ≤ m → Narrow (duet_of k) →
+    IsShortDelivery says l word e.own → MadeFrom sa sb p m (duet_of k) (delivers says l word e)
+delivers-made sa sb p says l m word e k well of least narrow short =
+    came-made sa sb p m e _ k (delivers-same says l word e) narrow
+    (delivers-came sa sb p says l m word e k.own k.own_auto (end_of k.other_auto (ledger_at k.other.ledgers p)) well of least short k.own_seated)
+
+pub asks-made : (sa sb : Setup) (p : Proto) (what : BapAsk) (l m word : ℕ) (e : Ends) (k : Kept sa sb p m e) → IsStation (station_of e.own) → IsOfLink (length e.own.trunk.links) l → 1 ≤ m → Narrow (duet_of k) →
+    AreShort (asks_peer l what (station_of e.own) word).out.entries → MadeFrom sa sb p m (duet_of k) (asks l what word e)
+asks-made sa sb p what l m word e k well of least narrow short =
+    came-made sa sb p m e _ k (asks-same what l word e) narrow
+    (asks-came sa sb p what l m word e k.own k.own_auto (end_of k.other_auto (ledger_at k.other.ledgers p)) well of least short k.own_seated)
+
+pub tells-made : (sa sb : Setup) (p : Proto) (status l m word : ℕ) (e : Ends) (k : Kept sa sb p m e) → IsStation (station_of e.own) → IsOfLink (length e.own.trunk.links) l → 1 ≤ m → Narrow (duet_of k) →
+    AreShort (tells_peer l status (station_of e.own) word).out.entries → MadeFrom sa sb p m (duet_of k) (tells l status word e)
+tells-made sa sb p status l m word e k well of least narrow short =
+    came-made sa sb p m e _ k (tells-same status l word e) narrow
+    (tells-came sa sb p status l m word e k.own k.own_auto (end_of k.other_auto (ledger_at k.other.ledgers p)) well of least short k.own_seated)
+
+pub tries-made : (sa sb : Setup) (p : Proto) (l m word : ℕ) (e : Ends) (k : Kept sa sb p m e) → IsStation (station_of e.own) → IsOfLink (length e.own.trunk.links) l → 1 ≤ m → Narrow (duet_of k) →
+    AreShort (tries_again l (station_of e.own) word).out.entries → MadeFrom sa sb p m (duet_of k) (tries l word e)
+tries-made sa sb p l m word e k well of least narrow short =
+    came-made sa sb p m e _ k (tries-same l word e) narrow
+    (tries-came sa sb p l m word e k.own k.own_auto (end_of k.other_auto (ledger_at k.other.ledgers p)) well of least short k.own_seated)
 
 pub loses-made : (sa sb : Setup) (p : Proto) (l m place : ℕ) (e : Ends) (k : Kept sa sb p m e) → 1 ≤ l → 1 ≤ m → Narrow (duet_of k) → MadeFrom sa sb p m (duet_of k) (loses l place e)
 loses-made sa sb p l m place e k low least narrow =
     came-made sa sb p m e _ k (loses-same l place e) narrow
     (loses-came sa sb p l m place e k.own k.own_auto (end_of k.other_auto (ledger_at k.other.ledgers p)) low least k.own_seated)
 
-pub reboots-led : (sa sb : Setup) (p : Proto) (m word : ℕ) (e : Ends) (k : Kept sa sb p m e) → 1 ≤ m → AllShortDowns word e.other.station → LedFrom sa sb p m (rebooted sa sb word (duet_of k)) (reboots word e)
+pub reboots-led : (sa sb : Setup) (p : Proto) (m word : ℕ) (e : Ends) (k : Kept sa sb p m e) → 1 ≤ m → AllShortDowns word (station_of e.other) → LedFrom sa sb p m (rebooted sa sb word (duet_of k)) (reboots word e)
 reboots-led sa sb p m word e k least short =
     anew-led sa sb p m (rebooted sa sb word (duet_of k)) _ (reached_on sa sb (duet_of k) (record { side = duet.A; what = duet.Reboots; word = word }) (λ same. absurd (cc)) k.reached)
     (reboots-came sa sb p m word e k.own k.other k.own_auto k.other_auto least short k.own_seated k.other_seated)
 
 -- ---- what is kept
 
-pub happens-kept : (sa sb : Setup) (p : Proto) (what : Happens) (l m word : ℕ) (e : Ends) (j : Link) (k : Kept sa sb p m e) → 1 ≤ l → 1 ≤ m → Narrow (duet_of k) → slice_get e.own.station.links (l - 1) ≡ Some j →
-    IsNoFrame what → AreShort (on_link what l e.own.station word).out.entries → Kept sa sb p m (happens what l word e)
-happens-kept sa sb p what l m word e j k low least narrow there quiet short = (happens-made sa sb p what l m word e j k low least narrow there quiet short).kept
-
-pub delivers-kept : (sa sb : Setup) (p : Proto) (l m word : ℕ) (e : Ends) (j : Link) (k : Kept sa sb p m e) → 1 ≤ l → 1 ≤ m → Narrow (duet_of k) → slice_get e.own.station.links (l - 1) ≡ Some j →
-    ((f : Frame) (rest : List Frame) → slice_get e.own.incoming (l - 1) ≡ Some (f ∷ rest) → AreShort (on_link (Takes f.octets) l e.own.station word).out.entries) → Kept sa sb p m (delivers l word e)
-delivers-kept sa sb p l m word e j k low least narrow there short = (delivers-made sa sb p l m word e j k low least narrow there short).kept
-
 pub loses-kept : (sa sb : Setup) (p : Proto) (l m place : ℕ) (e : Ends) (k : Kept sa sb p m e) → 1 ≤ l → 1 ≤ m → Narrow (duet_of k) → Kept sa sb p m (loses l place e)
 loses-kept sa sb p l m place e k low least narrow = (loses-made sa sb p l m place e k low least narrow).kept
 
-pub reboots-kept : (sa sb : Setup) (p : Proto) (m word : ℕ) (e : Ends) (k : Kept sa sb p m e) → 1 ≤ m → AllShortDowns word e.other.station → Kept sa sb p m (reboots word e)
+pub reboots-kept : (sa sb : Setup) (p : Proto) (m word : ℕ) (e : Ends) (k : Kept sa sb p m e) → 1 ≤ m → AllShortDowns word (station_of e.other) → Kept sa sb p m (reboots word e)
 reboots-kept sa sb p m word e k least short = (reboots-led sa sb p m word e k least short).kept

@@ -26,7 +26,7 @@ use Rattle.ppp_auto.specs.Packet.{Packet, Request, Ack, Nak, Reject, Other, pack
 use Rattle.ppp_auto.specs.Reply.{reply_with}
 use Rattle.ppp_duet.specs.Duet.{Did, Marked, Setup, marked, does, does_if, takes, got_after}
 use Rattle.ppp_auto.specs.Auto.{is_off}
-use Rattle.ppp_station.specs.Orders.{packets_in}
+use Rattle.ppp_trunk.specs.Orders.{packets_in}
 use Rattle.ppp_party.specs.Ledger.{Ledger, first_id, last_of, noted_all, stamped, heard, is_asking, IsLedgerOf, end_of}
 
 -- the packets among effects

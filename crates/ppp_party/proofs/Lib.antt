@@ -1,3 +1,4 @@
+pub mod CameLemmas
 pub mod DoneLemmas
 mod HeardLemmas
 pub mod HeldLemmas
@@ -5,6 +6,7 @@ pub mod KeptLemmas
 mod LedgerLemmas
 pub mod ListLemmas
 mod LoneLemmas
+mod MoveLemmas
 mod OrderLemmas
 pub mod PartyLemmas
 mod PostLemmas
@@ -16,4 +18,6 @@ mod ResultLemmas
 pub mod SeatLemmas
 mod SendLemmas
 pub mod SpansLemmas
+mod StationLemmas
 mod StepLemmas
+mod SenderLemmas

@@ -19,7 +19,7 @@ use Rattle.ppp_duet.specs.Duet as duet
 use Rattle.ppp_duet.specs.Duet.{Duet, End, Event, Marked, Setup, at_first, run, with_a}
 use Rattle.ppp_duet.proofs.NarrowRunLemmas.{run_append}
 use Rattle.ppp_link.specs.Automata.{with_cap}
-use Rattle.ppp_station.specs.Orders.{Obeyed, Order, Commands, SetsCap, Hears, RejectsProtocol, and_sends, obeyed, obeys, obeys_all, packets_in}
+use Rattle.ppp_trunk.specs.Orders.{Obeyed, Order, Commands, SetsCap, Hears, RejectsProtocol, and_sends, obeyed, obeys, obeys_all, packets_in}
 use Rattle.ppp_party.specs.Events.{Leads, Makes}
 use Rattle.ppp_party.specs.Ledger.{Ledger, IsLedgerOf, end_of, heard, noted, noted_all, stamp, stamped}
 use Rattle.ppp_party.proofs.LedgerLemmas.{commanded_kept, commanded_seen, packet_of-octets_of, packets_of, proper_command, read_all, read_one, sent_in, taken_kept, taken_seen}

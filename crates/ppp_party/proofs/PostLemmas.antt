@@ -10,9 +10,9 @@ use Rattle.ppp_auto.specs.Packet.{Packet, packet_of}
 use Rattle.ppp_duet.specs.Duet as duet
 use Rattle.ppp_duet.specs.Duet.{End, Event, Marked, Setup, at_first, run, without}
 use Rattle.ppp_frame.specs.Header.{Read}
-use Rattle.ppp_station.specs.Orders.{is_same, packet_if, packets_of, read_in}
-use Rattle.ppp_station.specs.StationOut.{Entry, Push, Got, Hang}
-use Rattle.ppp_station.proofs.OrdersLemmas.{same-proto}
+use Rattle.ppp_trunk.specs.Orders.{is_same, packet_if, packets_of, read_in}
+use Rattle.ppp_trunk.specs.StationOut.{Entry, Push, Got, Hang, Dial, Asked}
+use Rattle.ppp_trunk.proofs.OrdersLemmas.{same-proto}
 use Rattle.ppp_party.specs.Events.{Leads}
 use Rattle.ppp_party.specs.Frame.{Carried, Frame, carried, carried_as, carried_by, mark_by, marked_for, marked_frames, noted_by, noted_frames, noted_if, only, packet_for, packets_for, seen}
 use Rattle.ppp_party.specs.Ledger.{Ledger, Ledgers, ledger_at, noted_all, stamp, stamped}
@@ -70,6 +70,8 @@ pushes-packets p m [] = refl
 pushes-packets p m (Push l octets ∷ es) = one-push p octets (pushes_on m es) (packets_of p m es) (l == m) (pushes-packets p m es)
 pushes-packets p m (Got class protocol octets ∷ es) = pushes-packets p m es
 pushes-packets p m (Hang l ∷ es) = pushes-packets p m es
+pushes-packets p m (Dial l ∷ es) = pushes-packets p m es
+pushes-packets p m (Asked answer ∷ es) = pushes-packets p m es
 
 -- ---- what is noted and marked
 

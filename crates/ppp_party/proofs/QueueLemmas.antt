@@ -1,7 +1,7 @@
 -- Facts on queues of frames.
 use Rattle.std.proofs.Common.{◌≡◌, ℕ, zero, suc, ◌-◌, ◌<◌, ◌≤◌, List, [], ◌∷◌, ◌++◌, length, drop, refl, sym, ap, ◌∙◌, arith, length-append}
 use Rattle.std.specs.Prelude.{Some, min, slice_get}
-use Rattle.std.specs.List.{remove}
+use Rattle.std.specs.List.{flat_map, remove}
 use Rattle.std.proofs.lemmas.Grind.{flat_map-append}
 use Rattle.std.proofs.lemmas.List.{take_all, take_at}
 use Rattle.ppp_duet.specs.Duet.{Marked, without}
@@ -83,4 +83,13 @@ answers-next p queue i f n now whole marks is least_is marks_are left =
     ∙ sym (least-append n (answers (seen p f)) (answers (only p (drop (suc i) queue))))
     ∙ ap (least n) (sym (answers-front p f (drop (suc i) queue)))
     ∙ ap (λ xs. least n (answers (only p xs))) (sym (drop-get queue i f is))
+    ∙ left
+
+-- by the marks that each frame has
+pub marks-next : (marks_of : Frame → List ℕ) (queue : List Frame) (i : ℕ) (f : Frame) (n now whole : ℕ) (marks : List ℕ) → slice_get queue i ≡ Some f → now ≡ least n marks → marks ≡ marks_of f →
+    least n (flat_map marks_of (drop i queue)) ≡ whole → least now (flat_map marks_of (drop (suc i) queue)) ≡ whole
+marks-next marks_of queue i f n now whole marks is least_is marks_are left =
+    ap (λ n. least n (flat_map marks_of (drop (suc i) queue))) (least_is ∙ ap (least n) marks_are)
+    ∙ sym (least-append n (marks_of f) (flat_map marks_of (drop (suc i) queue)))
+    ∙ ap (λ xs. least n (flat_map marks_of xs)) (sym (drop-get queue i f is))
     ∙ left

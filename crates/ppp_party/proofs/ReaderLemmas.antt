@@ -4,7 +4,7 @@ use Rattle.ppp_frame.specs.declared.escapes.TheConstants.{FLAG}
 use Rattle.ppp_frame.specs.Deframer.{DeframerState, feed_step}
 use Rattle.ppp_frame.specs.Standing.{fresh, is_fresh}
 use Rattle.ppp_frame.proofs.StandingLemmas.{fresh_is, fresh_start}
-use Rattle.ppp_station.specs.Orders.{open_reader, read_in}
+use Rattle.ppp_trunk.specs.Orders.{open_reader, read_in}
 
 flag-by : (d : DeframerState) (b : Bool) → is_fresh d.standing ≡ b → (feed_step d (FLAG ∷ [])).left.standing ≡ fresh
 unfolding feed_step

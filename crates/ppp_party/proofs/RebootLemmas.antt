@@ -20,25 +20,27 @@ use Rattle.ppp_link.specs.Automata.{auto_at, automata_begun, begun_if, with_cap}
 use Rattle.ppp_link.specs.Link.{Link}
 use Rattle.ppp_link.specs.LinkTables.{LinkTables, bacp_table, ip_table, ipv6_table, mpls_table, osi_table, table_if, table_of}
 use Rattle.ppp_link.specs.Steps.{does, run_by}
-use Rattle.ppp_station.specs.Control.{Run}
-use Rattle.ppp_station.specs.Moves.{Moves, goes_with, of_own, of_run, of_runs, orders_at, runs_of}
-use Rattle.ppp_station.specs.Orders.{Obeyed, Order, Commands, SetsCap, Hears, RejectsProtocol, auto_by, is_same, obeys, obeys_all, of_link, packets_in}
-use Rattle.ppp_station.specs.Phases.{IsStation, IsUpWhere}
-use Rattle.ppp_station.specs.Station.{Station, IsBegun, IsReady, link_ready, on_link, opens_all, station_anew}
-use Rattle.ppp_station.specs.StationOut.{AreShort, Entry}
-use Rattle.ppp_station.specs.Steps.{LineDown}
-use Rattle.ppp_station.proofs.MovesLemmas.{counts, moves-at}
-use Rattle.ppp_station.proofs.StationPhaseLemmas.{begun-anew, begun-station, kept-station, off-station}
+use Rattle.ppp_trunk.specs.Control.{Run}
+use Rattle.ppp_trunk.specs.Moves.{Moves, goes_with, of_own, of_run, of_runs, orders_at, runs_of}
+use Rattle.ppp_trunk.specs.Orders.{Obeyed, Order, Commands, SetsCap, Hears, RejectsProtocol, auto_by, is_same, obeys, obeys_all, of_link, packets_in}
+use Rattle.ppp_trunk.specs.Phases.{IsTrunk, IsUpWhere}
+use Rattle.ppp_trunk.specs.Trunk.{Trunk, IsBegun, IsReady, link_ready, on_link, opens_all, trunk_anew}
+use Rattle.ppp_trunk.specs.StationOut.{AreShort, Entry}
+use Rattle.ppp_trunk.specs.Steps.{LineDown}
+use Rattle.ppp_trunk.proofs.MovesLemmas.{all-framed, counts, moves-at}
+use Rattle.ppp_trunk.proofs.TrunkPhaseLemmas.{begun-anew, begun-trunk, kept-trunk, off-trunk}
+use Rattle.ppp_station.specs.Station.{Station, moves, station_anew}
 use Rattle.ppp_party.specs.Downs.{AllShortDowns, AreShortDowns}
 use Rattle.ppp_party.specs.Events.{DeliversFirst, AreCaused, Leads, Makes}
 use Rattle.ppp_party.specs.Frame.{Frame, only}
 use Rattle.ppp_party.specs.Ledger.{Ledger, Ledgers, IsLedgerOf, end_of, first_id, ledger_at, ledger_begun, ledgers_begun, noted_all, stamped}
-use Rattle.ppp_party.specs.Party.{Ends, cleared, downs, ends_begun, happens, party_begun, posted, pushes_on, reboots, turned, unheard}
+use Rattle.ppp_party.specs.Party.{Ends, cleared, downs, ends_begun, happens, party_begun, pushes_on, reboots, station_of, turned, unheard}
 use Rattle.ppp_party.specs.Seat.{Anew, IsEnd, IsSeated, IsSettled, IsSpoken, IsWell, Seat, SeatAt, rebooted, seat_duet, seat_posted}
 use Rattle.ppp_party.proofs.LedgerLemmas.{commanded_kept, commanded_seen, packets_of, proper_command, read_all, sent_in}
 use Rattle.ppp_party.proofs.ListLemmas.{all-at, there-is}
+use Rattle.ppp_party.proofs.MoveLemmas.{passed-pushes, short-passed}
 use Rattle.ppp_party.proofs.OrderLemmas.{BringsNone, duet_with, joined, orders-run}
-use Rattle.ppp_party.proofs.SeatLemmas.{happens-settled, posted-at, same-or, well-posted}
+use Rattle.ppp_party.proofs.SeatLemmas.{happens-settled, posted-at, pushes-sent, same-or, well-posted}
 use Rattle.ppp_party.proofs.StepLemmas.{None_in, goes-out, is-done, none-append, own-here, own-other}
 
 -- ---- the row Down
@@ -289,16 +291,16 @@ off-closed AckSent off = refl
 off-closed Opened off = absurd (cc)
 
 -- no automaton is Up on such a link
-net-off : (st : Station) (i : ℕ) (k : Link) (p : Proto) (w : Auto) → IsStation st → slice_get st.links i ≡ Some k → p ≢ Lcp → auto_at k.automata p ≡ Some w → is_off k.automata.lcp.state ≡ true → is_off w.state ≡ true
-net-off st i k p w station at other is off = subst (IsUpWhere false) is (off-station st i k p station at other (off-closed k.automata.lcp.state off))
+net-off : (st : Trunk) (i : ℕ) (k : Link) (p : Proto) (w : Auto) → IsTrunk st → slice_get st.links i ≡ Some k → p ≢ Lcp → auto_at k.automata p ≡ Some w → is_off k.automata.lcp.state ≡ true → is_off w.state ≡ true
+net-off st i k p w trunk at other is off = subst (IsUpWhere false) is (off-trunk st i k p trunk at other (off-closed k.automata.lcp.state off))
 
-all-off : (st : Station) (i : ℕ) (k : Link) (p : Proto) (w : Auto) → IsStation st → slice_get st.links i ≡ Some k → auto_at k.automata p ≡ Some w → is_off k.automata.lcp.state ≡ true → is_off w.state ≡ true
-all-off st i k Lcp w station at is off = let same : k.automata.lcp ≡ w = cc in subst (λ (a : Auto). is_off a.state ≡ true) same off
-all-off st i k Ip w station at is off = net-off st i k Ip w station at (λ same. cc) is off
-all-off st i k Ipv6 w station at is off = net-off st i k Ipv6 w station at (λ same. cc) is off
-all-off st i k Osi w station at is off = net-off st i k Osi w station at (λ same. cc) is off
-all-off st i k Mpls w station at is off = net-off st i k Mpls w station at (λ same. cc) is off
-all-off st i k Bacp w station at is off = net-off st i k Bacp w station at (λ same. cc) is off
+all-off : (st : Trunk) (i : ℕ) (k : Link) (p : Proto) (w : Auto) → IsTrunk st → slice_get st.links i ≡ Some k → auto_at k.automata p ≡ Some w → is_off k.automata.lcp.state ≡ true → is_off w.state ≡ true
+all-off st i k Lcp w trunk at is off = let same : k.automata.lcp ≡ w = cc in subst (λ (a : Auto). is_off a.state ≡ true) same off
+all-off st i k Ip w trunk at is off = net-off st i k Ip w trunk at (λ same. cc) is off
+all-off st i k Ipv6 w trunk at is off = net-off st i k Ipv6 w trunk at (λ same. cc) is off
+all-off st i k Osi w trunk at is off = net-off st i k Osi w trunk at (λ same. cc) is off
+all-off st i k Mpls w trunk at is off = net-off st i k Mpls w trunk at (λ same. cc) is off
+all-off st i k Bacp w trunk at is off = net-off st i k Bacp w trunk at (λ same. cc) is off
 
 -- ---- the lines that go down, one after the other
 
@@ -308,7 +310,7 @@ record Walk (sa sb : Setup) (p : Proto) (m l word : ℕ) (start : Duet) (b : End
   seat : Seat
   auto : Auto
   real : Auto
-  station : IsStation e.own.station
+  trunk : IsTrunk e.own.trunk
   at : SeatAt m e seat
   well : IsWell seat
   empty : seat.incoming ≡ []
@@ -326,12 +328,13 @@ off-next : (l m word : ℕ) (rs : List Run) (k now : Link) (out : List Entry) �
 off-next l m word rs k now out moves off less (inl same) = lcp-down m word rs k now out (subst (λ l. Moves l m LineDown rs word k now out) (sym same) moves)
 off-next l m word rs k now out moves off less (inr other) = ap (λ (a : Auto). is_off a.state) (lcp-stays l m word rs k now out other moves) ∙ off (below m l less other)
 
-walk-next : (sa sb : Setup) (p : Proto) (m l word : ℕ) (start : Duet) (b : End) (e : Ends) → 1 ≤ l → 1 ≤ m → l ≤ length e.own.station.links → AreShort (on_link LineDown l e.own.station word).out.entries →
+walk-next : (sa sb : Setup) (p : Proto) (m l word : ℕ) (start : Duet) (b : End) (e : Ends) → 1 ≤ l → 1 ≤ m → l ≤ length e.own.trunk.links → AreShort (moves LineDown l (station_of e.own) word).out.entries →
     Walk sa sb p m l word start b e → Walk sa sb p m (l + 1) word start b (happens LineDown l word e)
 unfolding happens
-walk-next sa sb p m l word start b e low least high short w =
-    let st = e.own.station in
+walk-next sa sb p m l word start b e low least high quick w =
+    let st = e.own.trunk in
     let es = (on_link LineDown l st word).out.entries in
+    let short : AreShort es = short-passed es quick in
     let rs = runs_of LineDown l st word in
     let s = w.seat in
     let link = there-is st.links l low high in
@@ -346,9 +349,10 @@ walk-next sa sb p m l word start b e low least high short w =
       seat = seat_posted 0 to.link (pushes_on m es) s;
       auto = did.auto;
       real = (obeys_all sa.table word os w.real).auto;
-      station = kept-station LineDown l word st link.0 low link.1 w.station;
-      at = posted-at 0 m (on_link LineDown l st word) e s to.link least to.at w.at;
-      well = well-posted LineDown l m word 0 st s to.link short (happens-settled LineDown l m word rs s.link to.link es to.moves tt w.well.settled) w.well.incoming w.well.outgoing;
+      trunk = kept-trunk LineDown l word st link.0 low link.1 w.trunk;
+      at = posted-at 0 m (moves LineDown l (station_of e.own) word) e s to.link (pushes_on m es) least to.at (passed-pushes m es) w.at;
+      well = well-posted 0 to.link (pushes_on m es) s (pushes-sent m es (all-framed LineDown l word st) short)
+          (happens-settled LineDown l m word rs s.link to.link es to.moves tt w.well.settled) w.well.incoming w.well.outgoing;
       empty = w.empty;
       spoken = subst (IsSpoken sa p) (sym to.moves.tables) w.spoken;
       is = done.auto;
@@ -358,19 +362,19 @@ walk-next sa sb p m l word start b e low least high short w =
       off = λ less. off-next l m word rs s.link to.link es to.moves w.off less (same-or m l);
     }
 
-walk-all : (sa sb : Setup) (p : Proto) (n m l word : ℕ) (start : Duet) (b : End) (e : Ends) → 1 ≤ l → 1 ≤ m → l + n ≤ 1 + length e.own.station.links → AreShortDowns word n l e.own.station →
+walk-all : (sa sb : Setup) (p : Proto) (n m l word : ℕ) (start : Duet) (b : End) (e : Ends) → 1 ≤ l → 1 ≤ m → l + n ≤ 1 + length e.own.trunk.links → AreShortDowns word n l (station_of e.own) →
     Walk sa sb p m l word start b e → Walk sa sb p m (l + n) word start b (downs n l word e)
 unfolding happens
 walk-all sa sb p zero m l word start b e low least high short w = subst (λ x. Walk sa sb p m x word start b e) (omega arith) w
 walk-all sa sb p (suc n) m l word start b e low least high short w =
     let next = happens LineDown l word e in
     subst (λ x. Walk sa sb p m x word start b (downs n (l + 1) word next)) (omega arith)
-    (walk-all sa sb p n m (l + 1) word start b next (omega arith) least (omega (arith, high, counts LineDown l word e.own.station)) short.1
+    (walk-all sa sb p n m (l + 1) word start b next (omega arith) least (omega (arith, high, counts LineDown l word e.own.trunk)) short.1
     (walk-next sa sb p m l word start b e low least (omega (arith, high)) short.0 w))
 
 -- ---- an end as it begins
 
--- the automaton of a protocol as a station begins with it: a control protocol above LCP is to be opened
+-- the automaton of a protocol as a trunk begins with it: a control protocol above LCP is to be opened
 abbrev pub opened_anew : Proto → Table → Auto → Auto
 opened_anew Lcp t a = a
 opened_anew p t a = (command t a AdminOpen 0).auto
@@ -471,17 +475,17 @@ silenced o = record { link = o.link; ledgers = unheard o.ledgers; incoming = [];
 
 -- before its lines go down
 abbrev pub stilled : Ends → Ends
-stilled e = record { own = cleared e.other; other = party_begun (station_anew e.own.station) }
+stilled e = record { own = cleared e.other; other = party_begun (station_anew (station_of e.own)) }
 
 pub silenced-at : (m : ℕ) (e : Ends) (s o : Seat) → SeatAt m e s → SeatAt m (turned e) o → SeatAt m (stilled e) (silenced o)
 silenced-at m e s o at_own at_other = record {
   link = at_other.link;
   ledgers = mapped-there unheard e.other.ledgers (m - 1) o.ledgers at_other.ledgers;
   incoming = mapped-there (λ queue. []) e.other.incoming (m - 1) o.incoming at_other.incoming;
-  outgoing = mapped-there (λ k. []) (station_anew e.own.station).links (m - 1) (link_ready s.link.tables) (mapped-there (λ k. link_ready k.tables) e.own.station.links (m - 1) s.link at_own.link);
+  outgoing = mapped-there (λ k. []) (trunk_anew e.own.trunk).links (m - 1) (link_ready s.link.tables) (mapped-there (λ k. link_ready k.tables) e.own.trunk.links (m - 1) s.link at_own.link);
 }
 
--- a link as a station begins with it, with these frames under way to it
+-- a link as a trunk begins with it, with these frames under way to it
 abbrev pub seat_begun : LinkTables → List Frame → Seat
 seat_begun t incoming = record { link = link_ready t; ledgers = ledgers_begun; incoming = incoming; outgoing = [] }
 
@@ -569,7 +573,7 @@ walk-first sa sb p m word e s o b least own is =
       seat = silenced o;
       auto = down;
       real = b;
-      station = is.station;
+      trunk = is.trunk;
       at = silenced-at m e s o own is.at;
       well = record { settled = is.well.settled; incoming = tt; outgoing = tt; few = omega arith };
       empty = refl;
@@ -581,29 +585,29 @@ walk-first sa sb p m word e s o b least own is =
       off = λ less. absurd (omega (arith, less, least));
     }
 
--- the station and the ledgers of the end itself
+-- the trunk and the ledgers of the end itself
 record StaysAnew (before after : Ends) : Type 0 where
-  station : after.other.station ≡ before.other.station
+  trunk : after.other.trunk ≡ before.other.trunk
   ledgers : after.other.ledgers ≡ before.other.ledgers
 
 downs-stay : (n l word : ℕ) (e : Ends) → StaysAnew e (downs n l word e)
 unfolding happens
-downs-stay zero l word e = record { station = refl; ledgers = refl }
+downs-stay zero l word e = record { trunk = refl; ledgers = refl }
 downs-stay (suc n) l word e =
-    let more = downs-stay n (l + 1) word (posted 0 (on_link LineDown l e.own.station word) e) in
-    record { station = more.station; ledgers = more.ledgers }
+    let more = downs-stay n (l + 1) word (happens LineDown l word e) in
+    record { trunk = more.trunk; ledgers = more.ledgers }
 
-pub reboots-came : (sa sb : Setup) (p : Proto) (m word : ℕ) (e : Ends) (s o : Seat) (a b : Auto) → 1 ≤ m → AllShortDowns word e.other.station →
+pub reboots-came : (sa sb : Setup) (p : Proto) (m word : ℕ) (e : Ends) (s o : Seat) (a b : Auto) → 1 ≤ m → AllShortDowns word (station_of e.other) →
     IsSeated sa p m e s a → IsSeated sb p m (turned e) o b → Anew sa sb p m (rebooted sa sb word (seat_duet p a s (end_of b (ledger_at o.ledgers p)))) (reboots word e)
 unfolding reboots
 reboots-came sa sb p m word e s o a b least short own other =
-    let n = length e.other.station.links in
+    let n = length e.other.trunk.links in
     let t = s.link.tables in
-    let anew = station_anew e.own.station in
-    let within = slice_get_within e.other.station.links (m - 1) o.link other.at.link in
+    let anew = trunk_anew e.own.trunk in
+    let within = slice_get_within e.other.trunk.links (m - 1) o.link other.at.link in
     let w = walk-all sb sa p n m 1 word _ (duet.end_begun sa) (stilled e) (omega arith) least (omega arith) short (walk-first sa sb p m word e s o b least own.at other) in
     let now = w.seat in
-    let off = all-off (downs n 1 word (stilled e)).own.station (m - 1) now.link p w.real w.station w.at.link w.is (w.off (omega (arith, within, least))) in
+    let off = all-off (downs n 1 word (stilled e)).own.trunk (m - 1) now.link p w.real w.trunk w.at.link w.is (w.off (omega (arith, within, least))) in
     let same = caught-up sb.table word w.auto w.real w.behind off in
     let back = sym same in
     let stays = downs-stay n 1 word (stilled e) in
@@ -612,16 +616,16 @@ reboots-came sa sb p m word e s o a b least short own other =
     let opened = begins-as sa sb p (end_of w.auto g) (only p now.outgoing) (only p now.incoming) own.end.spoken.first in
     let first = rebooted-is sb (ledger_at o.ledgers p) b word other.end.kept sa (end_of a (ledger_at s.ledgers p)) (only p s.incoming) (only p s.outgoing) in
     let all = joined sa sb _ _ _ (turned-leads sb sa _ _ w.leads) opened.leads in
-    let there = mapped-there (λ k. link_ready k.tables) e.own.station.links (m - 1) s.link own.at.link in
+    let there = mapped-there (λ k. link_ready k.tables) e.own.trunk.links (m - 1) s.link own.at.link in
     record {
       own = record { link = link_ready t; ledgers = ledgers_begun; incoming = now.outgoing; outgoing = now.incoming };
       other = now;
       own_auto = auto;
       other_auto = w.real;
       own_seated = record {
-        station = subst IsStation (sym stays.station) (begun-station anew (begun-anew e.own.station own.station));
+        trunk = subst IsTrunk (sym stays.trunk) (begun-trunk anew (begun-anew e.own.trunk own.trunk));
         at = record {
-          link = ap (λ (st : Station). slice_get st.links (m - 1)) stays.station ∙ there;
+          link = ap (λ (st : Trunk). slice_get st.links (m - 1)) stays.trunk ∙ there;
           ledgers = ap (λ gs. slice_get gs (m - 1)) stays.ledgers ∙ mapped-there (λ k. ledgers_begun) anew.links (m - 1) (link_ready t) there;
           incoming = w.at.outgoing;
           outgoing = w.at.incoming;
@@ -630,7 +634,7 @@ reboots-came sa sb p m word e s o a b least short own other =
         end = begun-end sa p t now.outgoing now.incoming own.end.spoken;
       };
       other_seated = record {
-        station = w.station;
+        trunk = w.trunk;
         at = w.at;
         well = w.well;
         end = record { spoken = w.spoken; auto = w.is; kept = subst (λ a. IsLedgerOf a g) same w.kept };
@@ -644,23 +648,23 @@ reboots-came sa sb p m word e s o a b least short own other =
 
 -- ---- both ends as they begin
 
-pub begun-ready : (m : ℕ) (st : Station) (k : Link) → IsBegun st → slice_get st.links (m - 1) ≡ Some k → k ≡ link_ready k.tables
+pub begun-ready : (m : ℕ) (st : Trunk) (k : Link) → IsBegun st → slice_get st.links (m - 1) ≡ Some k → k ≡ link_ready k.tables
 begun-ready m st k begun is = all-at IsReady st.links (m - 1) k begun.ready is
 
-pub seat-begun : (m : ℕ) (own other : Station) (k j : Link) → slice_get own.links (m - 1) ≡ Some k → slice_get other.links (m - 1) ≡ Some j → k ≡ link_ready k.tables →
+pub seat-begun : (m : ℕ) (own other : Station) (k j : Link) → slice_get own.trunk.links (m - 1) ≡ Some k → slice_get other.trunk.links (m - 1) ≡ Some j → k ≡ link_ready k.tables →
     SeatAt m (ends_begun own other) (seat_begun k.tables [])
 seat-begun m own other k j there here ready = record {
   link = there ∙ ap (λ k. Some k) ready;
-  ledgers = mapped-there (λ k. ledgers_begun) own.links (m - 1) k there;
-  incoming = mapped-there (λ k. []) own.links (m - 1) k there;
-  outgoing = mapped-there (λ k. []) other.links (m - 1) j here;
+  ledgers = mapped-there (λ k. ledgers_begun) own.trunk.links (m - 1) k there;
+  incoming = mapped-there (λ k. []) own.trunk.links (m - 1) k there;
+  outgoing = mapped-there (λ k. []) other.trunk.links (m - 1) j here;
 }
 
 well-begun : (t : LinkTables) → IsWell (seat_begun t [])
 well-begun t = record { settled = ready-settled t; incoming = tt; outgoing = tt; few = omega arith }
 
-pub begins-came : (sa sb : Setup) (p : Proto) (m : ℕ) (own other : Station) (k j : Link) → slice_get own.links (m - 1) ≡ Some k → slice_get other.links (m - 1) ≡ Some j →
-    IsBegun own → IsBegun other → IsSpoken sa p k.tables → IsSpoken sb p j.tables → Anew sa sb p m (duet.start sa sb) (ends_begun own other)
+pub begins-came : (sa sb : Setup) (p : Proto) (m : ℕ) (own other : Station) (k j : Link) → slice_get own.trunk.links (m - 1) ≡ Some k → slice_get other.trunk.links (m - 1) ≡ Some j →
+    IsBegun own.trunk → IsBegun other.trunk → IsSpoken sa p k.tables → IsSpoken sb p j.tables → Anew sa sb p m (duet.start sa sb) (ends_begun own other)
 begins-came sa sb p m own other k j there here ready steady spoken heard =
     let a = opened_anew p sa.table (begun sa.table first_id) in
     let b = opened_anew p sb.table (begun sb.table first_id) in
@@ -672,7 +676,7 @@ begins-came sa sb p m own other k j there here ready steady spoken heard =
       other = seat_begun j.tables [];
       own_auto = a;
       other_auto = b;
-      own_seated = record { station = begun-station own ready; at = seat-begun m own other k j there here (begun-ready m own k ready there); well = well-begun k.tables; end = begun-end sa p k.tables [] [] spoken };
-      other_seated = record { station = begun-station other steady; at = seat-begun m other own j k here there (begun-ready m other j steady here); well = well-begun j.tables; end = begun-end sb p j.tables [] [] heard };
+      own_seated = record { trunk = begun-trunk own.trunk ready; at = seat-begun m own other k j there here (begun-ready m own.trunk k ready there); well = well-begun k.tables; end = begun-end sa p k.tables [] [] spoken };
+      other_seated = record { trunk = begun-trunk other.trunk steady; at = seat-begun m other own j k here there (begun-ready m other.trunk j steady here); well = well-begun j.tables; end = begun-end sb p j.tables [] [] heard };
       leads = record { events = all.events; none = all.none; leads = all.leads ∙ sym (λ i. duet_with a (begun-at p i) (end_of b (begun-at p i)) [] []) };
     }

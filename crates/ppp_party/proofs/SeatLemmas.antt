@@ -1,41 +1,36 @@
 -- What an event at an end makes of one of its links, whatever link it is on; and what stays so on the link.
-use Rattle.std.proofs.Common.{◌≡◌, ◌≢◌, ℕ, zero, suc, ◌+◌, ◌-◌, ◌≤◌, Bool, true, false, if◌then◌else◌, List, [], ◌∷◌, ◌++◌, length, take, refl, sym, ap, subst, ◌∙◌, inl, inr, arith, length-take}
-use Rattle.std.specs.Prelude.{◌⊎◌, ◌==◌, Option, Some, None, option_map, slice_get}
+use Rattle.std.proofs.Common.{◌≡◌, ◌≢◌, ℕ, zero, suc, ◌+◌, ◌-◌, ◌≤◌, Bool, true, false, if◌then◌else◌, List, [], ◌∷◌, ◌++◌, length, take, refl, sym, ap, ◌∙◌, inl, inr, arith, length-take}
+use Rattle.std.specs.Prelude.{◌⊎◌, ◌==◌, Some, option_map, slice_get}
 use Rattle.std.specs.List.{AllByRecursion}
 use Rattle.std.proofs.lemmas.Bool.{eq-eqb, eqb-true, eqb-false, ne_eqb}
-use Rattle.ppp_auto.specs.Auto.{Auto, is_off}
-use Rattle.ppp_duet.specs.Duet.{End, Setup, without}
+use Rattle.ppp_auto.specs.Auto.{is_off}
+use Rattle.ppp_duet.specs.Duet.{without}
 use Rattle.ppp_frame.specs.Deframer.{DeframerState, feed_step}
 use Rattle.ppp_frame.specs.Standing.{fresh}
 use Rattle.ppp_packet.specs.Proto.{proto_number}
-use Rattle.ppp_packet.specs.declared.proto.Proto.{Proto}
 use Rattle.ppp_link.specs.Link.{Link, cleared_if, fed_with, read_by}
 use Rattle.ppp_link.specs.declared.link.TheConstants.{MOST_FRAME}
 use Rattle.ppp_link.specs.declared.link_out.TheConstants.{MOST_PUSH}
-use Rattle.ppp_station.specs.Control.{Run}
-use Rattle.ppp_station.specs.Moves.{AreFramed, IsFrame, Moves, runs_of}
-use Rattle.ppp_station.specs.Phases.{IsStation}
-use Rattle.ppp_station.specs.Station.{Station, Stepped, on_link}
-use Rattle.ppp_station.specs.StationOut.{AreShort, Entry, Push, Got, Hang}
-use Rattle.ppp_station.specs.Steps.{Happening, LineUp, LineDown, Opens, Closes, TimesOut, Takes, link_does}
-use Rattle.ppp_station.proofs.FrameLemmas.{enc-longer}
-use Rattle.ppp_station.proofs.MovesLemmas.{all-framed, moves-at}
-use Rattle.ppp_station.proofs.StationPhaseLemmas.{kept-station}
+use Rattle.ppp_trunk.specs.Control.{Run}
+use Rattle.ppp_trunk.specs.Moves.{AreFramed, IsFrame, Moves}
+use Rattle.ppp_station.specs.Station.{Stepped}
+use Rattle.ppp_trunk.specs.StationOut.{AreShort, Entry, Push, Got, Hang, Dial, Asked}
+use Rattle.ppp_trunk.specs.Steps.{Happening, LineUp, LineDown, Opens, Closes, TimesOut, Takes, link_does}
+use Rattle.ppp_trunk.proofs.FrameLemmas.{enc-longer}
 use Rattle.ppp_party.specs.Frame.{Frame, carried, marked_frames, noted_by, noted_frames}
 use Rattle.ppp_party.specs.Ledger.{Ledgers}
-use Rattle.ppp_party.specs.Party.{Ends, at_link, delivers, happens, heard_on, loses, posted, pushes_on, queued, room, taking_front, with_heard}
-use Rattle.ppp_party.specs.Seat.{AreSent, Came, IsNoFrame, IsSeated, IsSent, IsSettled, IsWell, Seat, SeatAt, seat_heard, seat_loses, seat_posted}
+use Rattle.ppp_party.specs.Party.{Ends, at_link, heard_on, posted, pushes_on, queued, room, with_heard}
+use Rattle.ppp_party.specs.Seat.{AreSent, Control, IsNoFrame, IsSent, IsSettled, IsWell, Seat, SeatAt, seat_heard, seat_loses, seat_posted}
 use Rattle.ppp_party.proofs.OrderLemmas.{AllByRecursion-append}
 use Rattle.ppp_party.proofs.PostLemmas.{noted-at, queued-at}
 use Rattle.ppp_party.proofs.ReadLemmas.{stands-again}
-use Rattle.ppp_party.proofs.StepLemmas.{SeatMakes, loses-makes, other-none, quiet-makes, quiet-none, taking-makes}
 
 -- ---- the deframer
 
 -- a deframer stands as after a flag, and reads as much as before
-record StandsSo (d : DeframerState) : Type 0 where
-  stands : d.standing ≡ fresh
-  limit : d.reader.limit ≡ MOST_FRAME
+pub record StandsSo (d : DeframerState) : Type 0 where
+  pub stands : d.standing ≡ fresh
+  pub limit : d.reader.limit ≡ MOST_FRAME
 
 stands-still : (k : Link) → IsSettled k → StandsSo k.deframer
 stands-still k settled = record { stands = settled.stands; limit = settled.limit }
@@ -52,17 +47,17 @@ does-so (Closes p) k word quiet settled = stands-still k settled
 does-so (TimesOut p) k word quiet settled = stands-still k settled
 does-so (Takes octets) k word quiet settled = absurd quiet
 
-takes-so : (octets : List ℕ) (k : Link) (word : ℕ) → IsSent octets → IsSettled k → StandsSo (link_does (Takes octets) k word).link.deframer
+pub takes-so : (octets : List ℕ) (k : Link) (word : ℕ) → IsSent octets → IsSettled k → StandsSo (link_does (Takes octets) k word).link.deframer
 unfolding fed_with
 takes-so octets k word sent settled =
     let d = read_by k.automata.lcp k.deframer in
-    let again = stands-again d sent.form sent.proto sent.info settled.stands in
+    let again = stands-again d sent.form sent.sender sent.info settled.stands in
     record {
       stands = ap (λ xs. (feed_step d xs).left.standing) sent.is ∙ again.0;
       limit = ap (λ xs. (feed_step d xs).left.reader.limit) sent.is ∙ ap (λ r. r.limit) again.1 ∙ settled.limit;
     }
 
-settled-so : (now : Link) (d : DeframerState) → now.deframer ≡ d → StandsSo d → IsSettled now
+pub settled-so : (now : Link) (d : DeframerState) → now.deframer ≡ d → StandsSo d → IsSettled now
 settled-so now d same so = record { stands = ap (λ d. d.standing) same ∙ so.stands; limit = ap (λ d. d.reader.limit) same ∙ so.limit }
 
 if-so : (b : Bool) (one other : DeframerState) → StandsSo one → StandsSo other → StandsSo (if b then one else other)
@@ -74,7 +69,7 @@ module _ (what : Happening) (l m word : ℕ) (rs : List Run) (k now : Link) (out
   happens-settled quiet settled = settled-so now _ moves.deframer (if-so (l == m) _ _ (does-so what k word quiet settled) (stands-still k settled))
 
   -- on another link
-  others-settled : m ≢ l → IsSettled k → IsSettled now
+  pub others-settled : m ≢ l → IsSettled k → IsSettled now
   others-settled other settled =
       settled-so now k.deframer (moves.deframer ∙ ap (λ b. if b then (link_does what k word).link.deframer else k.deframer) (ne_eqb l m (λ same. other (sym same)))) (stands-still k settled)
 
@@ -112,7 +107,7 @@ sent-marked gs mark [] sent = tt
 sent-marked gs mark (octets ∷ more) sent = (sent.0, sent-marked (noted_by gs (carried octets)) mark more sent.1)
 
 -- what goes out on a link is what is sent of packets
-pushes-sent : (m : ℕ) (es : List Entry) → AreFramed es → AreShort es → AllByRecursion IsSent (pushes_on m es)
+pub pushes-sent : (m : ℕ) (es : List Entry) → AreFramed es → AreShort es → AllByRecursion IsSent (pushes_on m es)
 pushes-sent m [] all short = tt
 pushes-sent m (Push link octets ∷ es) all short = one (link == m) all.0 short.0 (pushes-sent m es all.1 short.1)
   where
@@ -120,18 +115,17 @@ pushes-sent m (Push link octets ∷ es) all short = one (link == m) all.0 short.
     one true is few more =
         let longer = enc-longer is.form (proto_number is.proto) is.info in
         let size = ap length is.is in
-        (record { form = is.form; proto = is.proto; info = is.info; is = is.is; few = omega (arith, few, longer, size) }, more)
+        (record { form = is.form; sender = Control is.proto; info = is.info; is = is.is; few = omega (arith, few, longer, size) }, more)
     one false is few more = more
 pushes-sent m (Got class protocol octets ∷ es) all short = pushes-sent m es all.1 short.1
 pushes-sent m (Hang link ∷ es) all short = pushes-sent m es all.1 short.1
+pushes-sent m (Dial link ∷ es) all short = pushes-sent m es all.1 short.1
+pushes-sent m (Asked answer ∷ es) all short = pushes-sent m es all.1 short.1
 
-pub well-posted : (what : Happening) (l m word mark : ℕ) (st : Station) (s : Seat) (now : Link) → AreShort (on_link what l st word).out.entries → IsSettled now → AreSent s.incoming → AreSent s.outgoing →
-    IsWell (seat_posted mark now (pushes_on m (on_link what l st word).out.entries) s)
-well-posted what l m word mark st s now short settled incoming outgoing =
-    let es = (on_link what l st word).out.entries in
-    let frames = pushes_on m es in
+pub well-posted : (mark : ℕ) (now : Link) (frames : List (List ℕ)) (s : Seat) → AllByRecursion IsSent frames → IsSettled now → AreSent s.incoming → AreSent s.outgoing → IsWell (seat_posted mark now frames s)
+well-posted mark now frames s out settled incoming outgoing =
     let sent = marked_frames s.ledgers mark frames in
-    let all = AllByRecursion-append (λ f. IsSent f.octets) s.outgoing sent outgoing (sent-marked s.ledgers mark frames (pushes-sent m es (all-framed what l word st) short)) in
+    let all = AllByRecursion-append (λ f. IsSent f.octets) s.outgoing sent outgoing (sent-marked s.ledgers mark frames out) in
     record {
       settled = settled;
       incoming = incoming;
@@ -139,7 +133,7 @@ well-posted what l m word mark st s now short settled incoming outgoing =
       few = omega (arith, length-take room (s.outgoing ++ sent));
     }
 
-loses-well : (place : ℕ) (s : Seat) → IsWell s → IsWell (seat_loses place s)
+pub loses-well : (place : ℕ) (s : Seat) → IsWell s → IsWell (seat_loses place s)
 loses-well place s well = record { settled = well.settled; incoming = sent-without place s.incoming well.incoming; outgoing = well.outgoing; few = well.few }
 
 -- ---- among all links
@@ -174,17 +168,18 @@ at-others (suc (suc l)) (suc (suc m)) f (y ∷ ys) low other =
     rw e (at-others (suc l) (suc m) f ys (omega arith) (λ same. other (ap suc same)))
 
 -- a link of the station after its step, with what goes out on it
-pub posted-at : (mark m : ℕ) (step : Stepped) (e : Ends) (s : Seat) (now : Link) → 1 ≤ m → slice_get step.station.links (m - 1) ≡ Some now → SeatAt m e s →
-    SeatAt m (posted mark step e) (seat_posted mark now (pushes_on m step.out.entries) s)
-posted-at mark m step e s now low is at =
+pub posted-at : (mark m : ℕ) (step : Stepped) (e : Ends) (s : Seat) (now : Link) (frames : List (List ℕ)) → 1 ≤ m → slice_get step.station.trunk.links (m - 1) ≡ Some now → pushes_on m step.out.entries ≡ frames →
+    SeatAt m e s → SeatAt m (posted mark step e) (seat_posted mark now frames s)
+posted-at mark m step e s now frames low is out at =
     let es = step.out.entries in
     let one : 1 + (m - 1) ≡ m = omega arith in
+    let all : pushes_on (1 + (m - 1)) es ≡ frames = ap (λ n. pushes_on n es) one ∙ out in
     record {
       link = is;
-      ledgers = noted-at 1 es e.own.ledgers (m - 1) ∙ (λ i. option_map (λ g. noted_frames g (pushes_on (one i) es)) (at.ledgers i));
+      ledgers = noted-at 1 es e.own.ledgers (m - 1) ∙ (λ i. option_map (λ g. noted_frames g (all i)) (at.ledgers i));
       incoming = at.incoming;
       outgoing = queued-at 1 mark es e.own.ledgers e.other.incoming (m - 1) s.ledgers s.outgoing at.ledgers at.outgoing
-          ∙ (λ i. Some (queued s.outgoing (marked_frames s.ledgers mark (pushes_on (one i) es))));
+          ∙ (λ i. Some (queued s.outgoing (marked_frames s.ledgers mark (all i))));
     }
 
 -- the front frame is taken out and heard of
@@ -206,10 +201,6 @@ heard-others l m word f rest e s k low other at = record {
   outgoing = at.outgoing;
 }
 
--- the end has taken that frame
-abbrev pub took : ℕ → ℕ → Frame → List Frame → Link → Ends → Ends
-took l word f rest k e = posted f.mark (on_link (Takes f.octets) l e.own.station word) (record e { own = with_heard l word f rest (Some k) e.own })
-
 -- the end has lost that frame
 abbrev pub lost : ℕ → ℕ → Ends → Ends
 lost l place e = record e { own = record e.own { incoming = at_link l (without place) e.own.incoming } }
@@ -229,120 +220,3 @@ lost-others l m place e s low other at = record {
   incoming = at-others l m (without place) e.own.incoming low other ∙ at.incoming;
   outgoing = at.outgoing;
 }
-
--- ---- events, for each protocol on each link
-
-stays : (sa sb : Setup) (p : Proto) (m : ℕ) (s : Seat) (a : Auto) (b : End) (after : Ends) → IsSeated sa p m after s a → Came sa sb p m s a b after
-stays sa sb p m s a b after is = record { seat = s; auto = a; seated = is; fewer = omega arith; makes = record { events = []; first = tt; leads = refl } }
-
-came : (sa sb : Setup) (p : Proto) (m : ℕ) (s new : Seat) (a : Auto) (b : End) (after : Ends) → IsStation after.own.station → SeatAt m after new → IsWell new → length new.incoming ≤ length s.incoming →
-    SeatMakes sa sb p s new a b → Came sa sb p m s a b after
-came sa sb p m s new a b after station at well fewer did =
-    record { seat = new; auto = did.auto; seated = record { station = station; at = at; well = well; end = did.end }; fewer = fewer; makes = did.makes }
-
-pub happens-came : (sa sb : Setup) (p : Proto) (what : Happening) (l m word : ℕ) (e : Ends) (s : Seat) (k : Link) (a : Auto) (b : End) → 1 ≤ l → 1 ≤ m → slice_get e.own.station.links (l - 1) ≡ Some k →
-    IsNoFrame what → AreShort (on_link what l e.own.station word).out.entries → IsSeated sa p m e s a → Came sa sb p m s a b (happens what l word e)
-unfolding happens
-happens-came sa sb p what l m word e s k a b low least there quiet short is =
-    let st = e.own.station in
-    let es = (on_link what l st word).out.entries in
-    let rs = runs_of what l st word in
-    let to = moves-at what l m word st k s.link low least there is.at.link short in
-    let settled = happens-settled what l m word rs s.link to.link es to.moves quiet is.well.settled in
-    came sa sb p m s (seat_posted 0 to.link (pushes_on m es) s) a b _ (kept-station what l word st k low there is.station) (posted-at 0 m (on_link what l st word) e s to.link least to.at is.at)
-    (well-posted what l m word 0 st s to.link short settled is.well.incoming is.well.outgoing) (omega arith)
-    (quiet-makes sa sb p what l m word 0 rs s to.link es a b (quiet-none l m p what rs s.link word quiet) to.moves is.end)
-
--- on the link that the frame came on
-taking-own : (sa sb : Setup) (p : Proto) (l word : ℕ) (f : Frame) (rest : List Frame) (e : Ends) (s : Seat) (a : Auto) (b : End) → 1 ≤ l → s.incoming ≡ f ∷ rest →
-    AreShort (on_link (Takes f.octets) l e.own.station word).out.entries → IsSeated sa p l e s a → Came sa sb p l s a b (took l word f rest s.link e)
-taking-own sa sb p l word f rest e s a b low front short is =
-    let what = Takes f.octets in
-    let st = e.own.station in
-    let es = (on_link what l st word).out.entries in
-    let rs = runs_of what l st word in
-    let to = moves-at what l l word st s.link s.link low low is.at.link is.at.link short in
-    let sent : AreSent (f ∷ rest) = rw front at is.well.incoming in
-    let heard = seat_heard word f rest s in
-    let settled = settled-so to.link _ (own-deframer what l word rs s.link to.link es to.moves) (takes-so f.octets s.link word sent.0 is.well.settled) in
-    came sa sb p l s (seat_posted f.mark to.link (pushes_on l es) heard) a b _ (kept-station what l word st s.link low is.at.link is.station)
-    (posted-at f.mark l (on_link what l st word) (record e { own = with_heard l word f rest (Some s.link) e.own }) heard to.link low to.at (heard-own l word f rest e s low is.at))
-    (well-posted what l l word f.mark st heard to.link short settled sent.1 is.well.outgoing) (omega (arith, ap length front))
-    (taking-makes sa sb p l word rs f rest s to.link es a b front is.well.settled sent.0 to.moves is.end)
-
--- on another
-taking-other : (sa sb : Setup) (p : Proto) (l m word : ℕ) (f : Frame) (rest : List Frame) (e : Ends) (s : Seat) (k : Link) (a : Auto) (b : End) → 1 ≤ l → 1 ≤ m → m ≢ l → slice_get e.own.station.links (l - 1) ≡ Some k →
-    AreShort (on_link (Takes f.octets) l e.own.station word).out.entries → IsSeated sa p m e s a → Came sa sb p m s a b (took l word f rest k e)
-taking-other sa sb p l m word f rest e s k a b low least other there short is =
-    let what = Takes f.octets in
-    let st = e.own.station in
-    let es = (on_link what l st word).out.entries in
-    let rs = runs_of what l st word in
-    let to = moves-at what l m word st k s.link low least there is.at.link short in
-    let settled = others-settled what l m word rs s.link to.link es to.moves other is.well.settled in
-    came sa sb p m s (seat_posted f.mark to.link (pushes_on m es) s) a b _ (kept-station what l word st k low there is.station)
-    (posted-at f.mark m (on_link what l st word) (record e { own = with_heard l word f rest (Some k) e.own }) s to.link least to.at (heard-others l m word f rest e s k least other is.at))
-    (well-posted what l m word f.mark st s to.link short settled is.well.incoming is.well.outgoing) (omega arith)
-    (quiet-makes sa sb p what l m word f.mark rs s to.link es a b (other-none l m p what rs s.link word other) to.moves is.end)
-
-taking-by : (sa sb : Setup) (p : Proto) (l m word : ℕ) (f : Frame) (rest : List Frame) (e : Ends) (s : Seat) (k : Link) (a : Auto) (b : End) → 1 ≤ l → 1 ≤ m → slice_get e.own.station.links (l - 1) ≡ Some k →
-    slice_get e.own.incoming (l - 1) ≡ Some (f ∷ rest) → AreShort (on_link (Takes f.octets) l e.own.station word).out.entries → IsSeated sa p m e s a → (m ≡ l) ⊎ (m ≢ l) → Came sa sb p m s a b (took l word f rest k e)
-taking-by sa sb p l m word f rest e s k a b low least there front short is (inl same) =
-    let here : IsSeated sa p l e s a = subst (λ m. IsSeated sa p m e s a) same is in
-    let link : k ≡ s.link = let both : Some k ≡ Some s.link = sym there ∙ here.at.link in cc in
-    let queue : s.incoming ≡ f ∷ rest = let both : Some s.incoming ≡ Some (f ∷ rest) = sym here.at.incoming ∙ front in cc in
-    subst (λ m. Came sa sb p m s a b (took l word f rest k e)) (sym same)
-    (subst (λ k. Came sa sb p l s a b (took l word f rest k e)) (sym link) (taking-own sa sb p l word f rest e s a b low queue short here))
-taking-by sa sb p l m word f rest e s k a b low least there front short is (inr other) = taking-other sa sb p l m word f rest e s k a b low least other there short is
-
-front-by : (sa sb : Setup) (p : Proto) (l m word : ℕ) (e : Ends) (s : Seat) (k : Link) (a : Auto) (b : End) (o : Option (List Frame)) → slice_get e.own.incoming (l - 1) ≡ o → 1 ≤ l → 1 ≤ m → slice_get e.own.station.links (l - 1) ≡ Some k →
-    ((f : Frame) (rest : List Frame) → o ≡ Some (f ∷ rest) → AreShort (on_link (Takes f.octets) l e.own.station word).out.entries) → IsSeated sa p m e s a → Came sa sb p m s a b (taking_front l word o e)
-front-by sa sb p l m word e s k a b None front low least there short is = stays sa sb p m s a b e is
-front-by sa sb p l m word e s k a b (Some []) front low least there short is = stays sa sb p m s a b e is
-front-by sa sb p l m word e s k a b (Some (f ∷ rest)) front low least there short is =
-    subst (λ o. Came sa sb p m s a b (posted f.mark (on_link (Takes f.octets) l e.own.station word) (record e { own = with_heard l word f rest o e.own }))) (sym there)
-    (taking-by sa sb p l m word f rest e s k a b low least there front (short f rest refl) is (same-or m l))
-
-pub delivers-came : (sa sb : Setup) (p : Proto) (l m word : ℕ) (e : Ends) (s : Seat) (k : Link) (a : Auto) (b : End) → 1 ≤ l → 1 ≤ m → slice_get e.own.station.links (l - 1) ≡ Some k →
-    ((f : Frame) (rest : List Frame) → slice_get e.own.incoming (l - 1) ≡ Some (f ∷ rest) → AreShort (on_link (Takes f.octets) l e.own.station word).out.entries) → IsSeated sa p m e s a →
-    Came sa sb p m s a b (delivers l word e)
-unfolding delivers
-delivers-came sa sb p l m word e s k a b low least there short is = front-by sa sb p l m word e s k a b (slice_get e.own.incoming (l - 1)) refl low least there short is
-
-loses-by : (sa sb : Setup) (p : Proto) (l m place : ℕ) (e : Ends) (s : Seat) (a : Auto) (b : End) → 1 ≤ l → 1 ≤ m → IsSeated sa p m e s a → (m ≡ l) ⊎ (m ≢ l) → Came sa sb p m s a b (lost l place e)
-loses-by sa sb p l m place e s a b low least is (inl same) =
-    let here : IsSeated sa p l e s a = subst (λ m. IsSeated sa p m e s a) same is in
-    subst (λ m. Came sa sb p m s a b (lost l place e)) (sym same)
-    (came sa sb p l s (seat_loses place s) a b _ here.station (lost-own l place e s low here.at) (loses-well place s here.well) (length-without place s.incoming) (loses-makes sa sb p place s a b here.end))
-loses-by sa sb p l m place e s a b low least is (inr other) =
-    stays sa sb p m s a b _ (record { station = is.station; at = lost-others l m place e s least other is.at; well = is.well; end = is.end })
-
-pub loses-came : (sa sb : Setup) (p : Proto) (l m place : ℕ) (e : Ends) (s : Seat) (a : Auto) (b : End) → 1 ≤ l → 1 ≤ m → IsSeated sa p m e s a → Came sa sb p m s a b (loses l place e)
-unfolding loses
-loses-came sa sb p l m place e s a b low least is = loses-by sa sb p l m place e s a b low least is (same-or m l)
-
--- ---- the link that a frame is delivered to
-
--- it is there afterwards, and its deframer lends what it read of the frame
-pub record Lends (l : ℕ) (k : Link) (f : Frame) (after : Ends) : Type 0 where
-  pub link : Link
-  pub at : slice_get after.own.station.links (l - 1) ≡ Some link
-  pub reads : link.deframer.frame ≡ (feed_step (read_by k.automata.lcp k.deframer) f.octets).left.frame
-
-taking-lends : (l word : ℕ) (e : Ends) (k : Link) (f : Frame) (rest : List Frame) → 1 ≤ l → slice_get e.own.station.links (l - 1) ≡ Some k →
-    AreShort (on_link (Takes f.octets) l e.own.station word).out.entries → Lends l k f (took l word f rest k e)
-taking-lends l word e k f rest low there short =
-    let st = e.own.station in
-    let to = moves-at (Takes f.octets) l l word st k k low low there there short in
-    record { link = to.link; at = to.at; reads = own-reads f.octets l word (runs_of (Takes f.octets) l st word) k to.link (on_link (Takes f.octets) l st word).out.entries to.moves }
-
-front-lends : (l word : ℕ) (e : Ends) (k : Link) (f : Frame) (rest : List Frame) (o : Option (List Frame)) → o ≡ Some (f ∷ rest) → 1 ≤ l → slice_get e.own.station.links (l - 1) ≡ Some k →
-    AreShort (on_link (Takes f.octets) l e.own.station word).out.entries → Lends l k f (taking_front l word o e)
-front-lends l word e k f rest o is low there short =
-    subst (λ o. Lends l k f (taking_front l word o e)) (sym is)
-    (subst (λ o. Lends l k f (posted f.mark (on_link (Takes f.octets) l e.own.station word) (record e { own = with_heard l word f rest o e.own }))) (sym there) (taking-lends l word e k f rest low there short))
-
-pub delivers-lends : (l word : ℕ) (e : Ends) (k : Link) (f : Frame) (rest : List Frame) → 1 ≤ l → slice_get e.own.station.links (l - 1) ≡ Some k → slice_get e.own.incoming (l - 1) ≡ Some (f ∷ rest) →
-    AreShort (on_link (Takes f.octets) l e.own.station word).out.entries → Lends l k f (delivers l word e)
-unfolding delivers
-delivers-lends l word e k f rest low there front short = front-lends l word e k f rest (slice_get e.own.incoming (l - 1)) front low there short

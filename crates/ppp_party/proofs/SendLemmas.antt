@@ -8,8 +8,9 @@ use Rattle.ppp_auto.specs.Packet.{Packet, Request, Ack, Nak, Reject, Other}
 use Rattle.ppp_packet.specs.declared.proto.Proto.{Proto}
 use Rattle.ppp_packet.specs.declared.proto.Proto.TheVariants.{Lcp, Ip, Ipv6, Osi, Mpls, Bacp}
 use Rattle.ppp_frame.specs.Header.{Read}
-use Rattle.ppp_station.specs.Orders.{read_in}
-use Rattle.ppp_station.specs.StationOut.{Entry, Push, Got, Hang}
+use Rattle.ppp_trunk.specs.Orders.{read_in}
+use Rattle.ppp_trunk.specs.StationOut.{Entry, Push, Got, Hang, Dial, Asked}
+use Rattle.ppp_party.specs.BapSpans.{bap_kind, bap_kind_by}
 use Rattle.ppp_party.specs.Counted.{AllCounted, IsCounted}
 use Rattle.ppp_party.specs.Frame.{Carried, Frame, carried, carried_by, mark_by, marked_frames, noted_by, noted_frames, noted_if, packet_for}
 use Rattle.ppp_party.specs.Ledger.{Ledger, Ledgers, ledger_at, ledger_begun, ledgers_begun, ledgers_by, noted}
@@ -18,11 +19,11 @@ use Rattle.ppp_party.proofs.ListLemmas.{lent-at, take-next}
 
 -- ---- one behind the other
 
-noted-append : (gs : Ledgers) (xs ys : List (List ℕ)) → noted_frames gs (xs ++ ys) ≡ noted_frames (noted_frames gs xs) ys
+pub noted-append : (gs : Ledgers) (xs ys : List (List ℕ)) → noted_frames gs (xs ++ ys) ≡ noted_frames (noted_frames gs xs) ys
 noted-append gs [] ys = refl
 noted-append gs (x ∷ xs) ys = noted-append (noted_by gs (carried x)) xs ys
 
-marked-append : (gs : Ledgers) (mark : ℕ) (xs ys : List (List ℕ)) → marked_frames gs mark (xs ++ ys) ≡ marked_frames gs mark xs ++ marked_frames (noted_frames gs xs) mark ys
+pub marked-append : (gs : Ledgers) (mark : ℕ) (xs ys : List (List ℕ)) → marked_frames gs mark (xs ++ ys) ≡ marked_frames gs mark xs ++ marked_frames (noted_frames gs xs) mark ys
 marked-append gs mark [] ys = refl
 marked-append gs mark (x ∷ xs) ys = ap (λ fs. record { mark = mark_by gs mark (carried x); octets = x } ∷ fs) (marked-append (noted_by gs (carried x)) mark xs ys)
 
@@ -31,7 +32,7 @@ take-more zero xs ys = refl
 take-more (suc n) [] ys = refl
 take-more (suc n) (x ∷ xs) ys = ap (λ rest. x ∷ rest) (take-more n xs ys)
 
-queued-queued : (queue xs ys : List Frame) → queued (queued queue xs) ys ≡ queued queue (xs ++ ys)
+pub queued-queued : (queue xs ys : List Frame) → queued (queued queue xs) ys ≡ queued queue (xs ++ ys)
 queued-queued queue xs ys = take-more room (queue ++ xs) ys ∙ ap (take room) (append_assoc queue xs ys)
 
 pub none-queued : (queue : List Frame) → length queue ≤ room → queued queue [] ≡ queue
@@ -139,11 +140,15 @@ abbrev pub IsNoPush : Entry → Type 0
 IsNoPush (Push link octets) = ⊥
 IsNoPush (Got class protocol octets) = Unit {0}
 IsNoPush (Hang link) = Unit {0}
+IsNoPush (Dial link) = Unit {0}
+IsNoPush (Asked answer) = Unit {0}
 
-no-push : (e : Entry) (j : ℕ) → IsNoPush e → pushes_on j (e ∷ []) ≡ []
+pub no-push : (e : Entry) (j : ℕ) → IsNoPush e → pushes_on j (e ∷ []) ≡ []
 no-push (Push link octets) j none = absurd none
 no-push (Got class protocol octets) j none = refl
 no-push (Hang link) j none = refl
+no-push (Dial link) j none = refl
+no-push (Asked answer) j none = refl
 
 pub noted-nothing : (e : Entry) (gss : List Ledgers) → IsNoPush e → gss ≡ each_noted 1 (e ∷ []) gss
 noted-nothing e gss none = sym (noted-none 1 (e ∷ []) gss (λ j low. no-push e j none))
@@ -223,6 +228,8 @@ push-length : (l : ℕ) (e : Entry) → length (push_on l e) ≤ 1
 push-length l (Push link octets) = if-length (link == l) octets
 push-length l (Got class protocol octets) = omega arith
 push-length l (Hang link) = omega arith
+push-length l (Dial link) = omega arith
+push-length l (Asked answer) = omega arith
 
 pushes-length : (l : ℕ) (es : List Entry) → length (pushes_on l es) ≤ length es
 pushes-length l [] = omega arith
@@ -247,6 +254,10 @@ noted-counted most few m es [] less all = tt
 noted-counted most few m es (gs ∷ gss) less all = (counted-pushes most few m gs es less all.0, noted-counted most few (m + 1) es gss less all.1)
 
 -- what a frame carries, by what a reader lends of it
+pub bap-is : (octets : List ℕ) (o : Option Read) → o ≡ read_in octets → bap_kind_by o ≡ bap_kind octets
+unfolding bap_kind
+bap-is octets o is = ap bap_kind_by is
+
 pub carried-is : (octets : List ℕ) (o : Option Read) → o ≡ read_in octets → carried_by o ≡ carried octets
 unfolding carried
 carried-is octets o is = ap carried_by is

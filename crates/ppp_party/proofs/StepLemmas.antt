@@ -1,5 +1,5 @@
 -- An event at an end is, for each protocol on each link, a list of the two ends' events.
-use Rattle.std.proofs.Common.{◌≡◌, ◌≢◌, ℕ, zero, suc, ◌-◌, take, Bool, true, false, if◌then◌else◌, List, [], ◌∷◌, ◌++◌, refl, sym, ap, subst, ◌∙◌, inl, inr}
+use Rattle.std.proofs.Common.{◌≡◌, ◌≢◌, ℕ, zero, suc, ◌-◌, take, Bool, true, false, if◌then◌else◌, List, [], ◌∷◌, ◌++◌, refl, sym, ap, subst, ◌∙◌, append-nil, inl, inr}
 use Rattle.std.specs.Prelude.{◌⊎◌, ◌==◌, ◌&&◌, ◌||◌, Option, Some, None}
 use Rattle.std.specs.List.{AllByRecursion}
 use Rattle.std.proofs.lemmas.Bool.{eq-eqb, ne_eqb}
@@ -23,22 +23,22 @@ use Rattle.ppp_link.specs.Automata.{Automata, auto_at, cap_of, is_there}
 use Rattle.ppp_link.specs.Link.{Link, read_by}
 use Rattle.ppp_link.specs.LinkTables.{LinkTables, table_of}
 use Rattle.ppp_link.specs.Steps.{Event as Commanded, Packet as Octets, after, is_payload, rejected_in, run_by, there, told_by}
-use Rattle.ppp_station.specs.Control.{Run}
-use Rattle.ppp_station.specs.Moves.{Moves, goes_with, of_own, of_run, of_runs, orders_at}
-use Rattle.ppp_station.specs.Orders.{Obeyed, Order, Commands, SetsCap, Hears, RejectsProtocol, and_sends, auto_by, caps_after, is_same, obeyed, obeys_all, of_frame_for, of_given, of_link, of_packet, of_read, of_rejected, of_rejected_there, own_order, read_in, rejects_as, sent_by}
-use Rattle.ppp_station.specs.StationOut.{Entry}
-use Rattle.ppp_station.specs.Steps.{Happening, LineUp, LineDown, Opens, Closes, TimesOut, Takes}
-use Rattle.ppp_station.proofs.FrameLemmas.{control-read}
-use Rattle.ppp_station.proofs.OrdersLemmas.{same-proto}
+use Rattle.ppp_trunk.specs.Control.{Run}
+use Rattle.ppp_trunk.specs.Moves.{Moves, goes_with, of_own, of_run, of_runs, orders_at}
+use Rattle.ppp_trunk.specs.Orders.{Obeyed, Order, Commands, SetsCap, Hears, RejectsProtocol, and_sends, auto_by, caps_after, is_same, obeyed, obeys_all, of_frame_for, of_given, of_link, of_packet, of_read, of_rejected, of_rejected_there, own_order, read_in, rejects_as, sent_by}
+use Rattle.ppp_trunk.specs.StationOut.{Entry}
+use Rattle.ppp_trunk.specs.Steps.{Happening, LineUp, LineDown, Opens, Closes, TimesOut, Takes}
+use Rattle.ppp_trunk.proofs.OrdersLemmas.{same-proto}
 use Rattle.ppp_party.specs.Events.{AreCaused, DeliversFirst, IsCaused, IsNoReboot, Leads, Makes}
 use Rattle.ppp_party.specs.Frame.{Carried, Frame, carried, carried_as, carried_by, marked_for, marked_frames, noted_frames, only, packet_for, packets_for, seen}
 use Rattle.ppp_party.specs.Ledger.{Ledger, Ledgers, IsLedgerOf, end_of, heard, ledger_at, noted_all, stamped}
 use Rattle.ppp_party.specs.Party.{heard_by, heard_on, heard_packet, pushes_on, queued}
-use Rattle.ppp_party.specs.Seat.{IsEnd, IsSpoken, IsNoFrame, IsSent, IsSettled, Seat, seat_duet, seat_heard, seat_loses, seat_posted}
+use Rattle.ppp_party.specs.Seat.{IsEnd, IsSpoken, IsNoFrame, IsSent, IsSettled, Seat, seat_duet, seat_heard, seat_loses, seat_posted, sender_number}
 use Rattle.ppp_party.proofs.LedgerLemmas.{read_all, read_one}
 use Rattle.ppp_party.proofs.OrderLemmas.{AllByRecursion-append, BringsNone, at_own, duet_with, frame-run, joined, orders-run}
 use Rattle.ppp_party.proofs.PostLemmas.{marked-frames, noted-frames, number-some, of-info, pushes-packets, queued-leads}
 use Rattle.ppp_party.proofs.ReadLemmas.{lent-as}
+use Rattle.ppp_party.proofs.SenderLemmas.{sender-read}
 
 -- ---- orders that bring no frame
 
@@ -251,13 +251,44 @@ post sa sb p mark old s now frames a b did is same spoken kept makes =
 
 -- ---- orders that bring no frame, on the link of the event or another
 
-pub quiet-makes : (sa sb : Setup) (p : Proto) (what : Happening) (l m word mark : ℕ) (rs : List Run) (s : Seat) (now : Link) (out : List Entry) (a : Auto) (b : End) →
-    None_in (orders_at l m p what rs s.link word) → Moves l m what rs word s.link now out → IsEnd sa p s a → SeatMakes sa sb p s (seat_posted mark now (pushes_on m out) s) a b
-quiet-makes sa sb p what l m word mark rs s now out a b none moves end =
+-- what an end came to by events that deliver nothing is what its seat came to
+pub record SeatLeads (sa sb : Setup) (p : Proto) (s new : Seat) (a : Auto) (b : End) : Type 0 where
+  pub auto : Auto
+  pub end : IsEnd sa p new auto
+  pub leads : Leads sa sb (seat_duet p a s b) (seat_duet p auto new b)
+
+pub then-leads : (sa sb : Setup) (p : Proto) (old mid new : Seat) (a : Auto) (b : End) (one : SeatMakes sa sb p old mid a b) → SeatLeads sa sb p mid new one.auto b → SeatMakes sa sb p old new a b
+then-leads sa sb p old mid new a b one two = record { auto = two.auto; end = two.end; makes = makes-then sa sb _ _ _ one.makes two.leads }
+
+pub quiet-leads : (sa sb : Setup) (p : Proto) (what : Happening) (l m word mark : ℕ) (rs : List Run) (s : Seat) (now : Link) (out : List Entry) (a : Auto) (b : End) →
+    None_in (orders_at l m p what rs s.link word) → Moves l m what rs word s.link now out → IsEnd sa p s a → SeatLeads sa sb p s (seat_posted mark now (pushes_on m out) s) a b
+quiet-leads sa sb p what l m word mark rs s now out a b none moves end =
     let os = orders_at l m p what rs s.link word in
+    let did = obeys_all sa.table word os a in
     let obeys = orders-run sa sb a (ledger_at s.ledgers p) mark word b (only p s.incoming) (only p s.outgoing) os none end.kept in
-    post sa sb p mark s s now (pushes_on m out) a b (obeys_all sa.table word os a) (is-done sa p what l m word rs s.link now out a moves end.spoken.table end.auto) moves.tables end.spoken obeys.kept
-    (leads-makes sa sb _ _ obeys.events)
+    let is = is-done sa p what l m word rs s.link now out a moves end.spoken.table end.auto in
+    let sent = goes-out sa sb p mark s now (pushes_on m out) did.auto b (read_all did.sent) is.sent obeys.kept in
+    record {
+      auto = did.auto;
+      end = record { spoken = subst (IsSpoken sa p) (sym moves.tables) end.spoken; auto = is.auto; kept = sent.kept };
+      leads = joined sa sb _ _ _ obeys.events sent.leads;
+    }
+
+-- frames that carry no packet of the protocol
+pub plain-leads : (sa sb : Setup) (p : Proto) (mark : ℕ) (s : Seat) (frames : List (List ℕ)) (a : Auto) (b : End) → packets_for p frames ≡ [] → IsEnd sa p s a →
+    SeatLeads sa sb p s (seat_posted mark s.link frames s) a b
+plain-leads sa sb p mark s frames a b none end =
+    let g = ledger_at s.ledgers p in
+    let sent = goes-out sa sb p mark s s.link frames a b [] none end.kept in
+    record {
+      auto = a;
+      end = record { spoken = end.spoken; auto = end.auto; kept = sent.kept };
+      leads = record {
+        events = sent.leads.events;
+        none = sent.leads.none;
+        leads = ap (λ ms. run sa sb sent.leads.events (duet_with a g b (only p s.incoming) ms)) (sym (append-nil (only p s.outgoing))) ∙ sent.leads.leads;
+      };
+    }
 
 -- ---- the front frame is taken
 
@@ -340,9 +371,9 @@ carries-read : (d : DeframerState) (p : Proto) (octets info : List ℕ) → d.st
     packet_for p (carried octets) ≡ read_one (packet_of info)
 unfolding carried
 carries-read d p octets info stands sent is =
-    let here : (feed_step d (enc sent.form (proto_number sent.proto) sent.info)).left.frame ≡ Some (reads (proto_number p) info) = ap (λ xs. (feed_step d xs).left.frame) (sym sent.is) ∙ is in
-    let same : reads (proto_number p) info ≡ reads (proto_number sent.proto) sent.info = lent-as d sent.form sent.proto sent.info (reads (proto_number p) info) stands here in
-    let found : read_in octets ≡ Some (reads (proto_number p) info) = ap read_in sent.is ∙ control-read sent.form sent.proto sent.info sent.few ∙ ap (λ r. Some r) (sym same) in
+    let here : (feed_step d (enc sent.form (sender_number sent.sender) sent.info)).left.frame ≡ Some (reads (proto_number p) info) = ap (λ xs. (feed_step d xs).left.frame) (sym sent.is) ∙ is in
+    let same : reads (proto_number p) info ≡ reads (sender_number sent.sender) sent.info = lent-as d sent.form sent.sender sent.info (reads (proto_number p) info) stands here in
+    let found : read_in octets ≡ Some (reads (proto_number p) info) = ap read_in sent.is ∙ sender-read sent.form sent.sender sent.info sent.few ∙ ap (λ r. Some r) (sym same) in
     ap (λ o. packet_for p (carried_by o)) found
     ∙ ap (λ o. packet_for p (carried_as o info)) (own-number p)
     ∙ of-info p p (packet_of info) true (eq-eqb (proto_number p) (proto_number p) refl)

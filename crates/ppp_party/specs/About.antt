@@ -2,7 +2,7 @@
 use Rattle.std.specs.Prelude.{Bool, true, false, ◌&&◌, Option, Some, None, option_map}
 use Rattle.ppp_auto.specs.Packet.{Packet, Request, Ack, Nak, Reject, Other}
 use Rattle.ppp_packet.specs.declared.proto.Proto.{Proto}
-use Rattle.ppp_station.specs.Orders.{is_same}
+use Rattle.ppp_trunk.specs.Orders.{is_same}
 use Rattle.ppp_party.specs.Frame.{Carried}
 use Rattle.ppp_party.specs.declared.about.About.{About}
 use Rattle.ppp_party.specs.declared.about.PacketKind.{PacketKind}

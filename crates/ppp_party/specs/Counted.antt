@@ -1,4 +1,4 @@
--- How far an end has counted its Configure-Requests.
+-- How far an end has counted its requests.
 use Rattle.std.specs.Prelude.{ℕ, ◌≤◌, List}
 use Rattle.std.specs.List.{AllByRecursion}
 use Rattle.ppp_packet.specs.declared.proto.Proto.{Proto}
@@ -12,5 +12,6 @@ IsCounted most gs = (p : Proto) → (ledger_at gs p).n ≤ most
 abbrev pub AllCounted : ℕ → List Ledgers → Type 0
 AllCounted most gss = AllByRecursion (λ gs. IsCounted most gs) gss
 
-abbrev pub AreCounted : ℕ → Party → Type 0
-AreCounted most e = AllCounted most e.ledgers
+pub record AreCounted (most : ℕ) (e : Party) : Type 0 where
+  pub ledgers : AllCounted most e.ledgers
+  pub calls : e.calls.drawn ≤ most

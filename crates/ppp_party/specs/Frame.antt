@@ -7,7 +7,7 @@ use Rattle.ppp_packet.specs.Proto.{proto_of}
 use Rattle.ppp_auto.specs.Packet.{Packet, packet_of}
 use Rattle.ppp_duet.specs.Duet.{Marked}
 use Rattle.ppp_frame.specs.Header.{Read}
-use Rattle.ppp_station.specs.Orders.{is_same, read_in}
+use Rattle.ppp_trunk.specs.Orders.{is_same, read_in}
 use Rattle.ppp_party.specs.Ledger.{Ledger, Ledgers, ledger_at, ledgers_by, noted, stamp}
 
 pub record Frame : Type 0 where
@@ -60,9 +60,10 @@ noted_if g (packet ∷ more) = noted g packet
 abbrev pub noted_by : Ledgers → Option Carried → Ledgers
 noted_by gs c = ledgers_by (λ p. noted_if (ledger_at gs p) (packet_for p c))
 
--- The mark of a frame that goes out in answer to one of that mark: its packet's. A frame without a packet has none.
+-- The mark of a frame that goes out in answer to one of that mark: its packet's. One without a packet of a control protocol, as
+-- those of BAP are, has that mark itself.
 abbrev pub mark_by : Ledgers → ℕ → Option Carried → ℕ
-mark_by gs mark None = 0
+mark_by gs mark None = mark
 mark_by gs mark (Some c) = (stamp (ledger_at gs c.proto) mark c.packet).mark
 
 -- frames that go out, one behind the other: what is noted of them, and how they are marked

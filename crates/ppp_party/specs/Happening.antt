@@ -1,5 +1,5 @@
--- What happens at an end and brings no frame, in the words of a station's steps.
-use Rattle.ppp_station.specs.Steps.{Happening, LineUp, LineDown, Opens, Closes, TimesOut}
+-- What happens at an end and brings no frame, in the words of a trunk's steps.
+use Rattle.ppp_trunk.specs.Steps.{Happening, LineUp, LineDown, Opens, Closes, TimesOut}
 use Rattle.ppp_party.specs.declared.happening.Happening.{Happening as Kept}
 use Rattle.ppp_party.specs.declared.happening.Happening.TheVariants as kept
 

@@ -6,7 +6,7 @@ use Rattle.ppp_auto.specs.declared.auto_state.AutoState.{AutoState}
 use Rattle.ppp_link.specs.Automata.{Automata, auto_at}
 use Rattle.ppp_packet.specs.declared.proto.Proto.{Proto}
 use Rattle.ppp_packet.specs.declared.proto.Proto.TheVariants.{Lcp, Ip, Ipv6, Osi, Mpls, Bacp}
-use Rattle.ppp_station.specs.Orders.{is_same}
+use Rattle.ppp_trunk.specs.Orders.{is_same}
 use Rattle.ppp_party.specs.Frame.{Carried}
 use Rattle.ppp_party.specs.Ledger.{Ledger, Ledgers, heard, ledger_at, ledgers_by}
 use Rattle.ppp_party.specs.declared.states.States.{States}

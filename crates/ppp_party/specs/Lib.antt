@@ -1,4 +1,6 @@
 pub mod About
+pub mod BapSpans
+pub mod Calls
 pub mod CarriedRead
 pub mod Counted
 pub mod Downs

@@ -1,4 +1,4 @@
--- One link of an end: its station's link, its ledgers, and the frames under way on it both ways; and what an event at the end,
+-- One link of an end: its trunk's link, its ledgers, and the frames under way on it both ways; and what an event at the end,
 -- on that link or another, makes of these. It is what two ends of one protocol on one link are read off.
 use Rattle.std.specs.Prelude.{◌≡◌, ℕ, ◌+◌, ◌-◌, ◌≤◌, ⊤, List, length, Some, slice_get}
 use Rattle.std.specs.List.{AllByRecursion}
@@ -14,8 +14,9 @@ use Rattle.ppp_link.specs.Automata.{auto_at, automata_begun}
 use Rattle.ppp_link.specs.Link.{Link}
 use Rattle.ppp_link.specs.LinkTables.{LinkTables, table_of}
 use Rattle.ppp_link.specs.declared.link.TheConstants.{MOST_FRAME}
-use Rattle.ppp_station.specs.Phases.{IsStation}
-use Rattle.ppp_station.specs.Steps.{Happening, LineUp, LineDown, Opens, Closes, TimesOut, Takes}
+use Rattle.ppp_trunk.specs.Phases.{IsTrunk}
+use Rattle.ppp_trunk.specs.declared.steps.TheConstants.{BAP}
+use Rattle.ppp_trunk.specs.Steps.{Happening, LineUp, LineDown, Opens, Closes, TimesOut, Takes}
 use Rattle.ppp_party.specs.Events.{Leads, Makes}
 use Rattle.ppp_party.specs.Frame.{Frame, marked_frames, noted_frames, only}
 use Rattle.ppp_party.specs.Ledger.{Ledgers, IsLedgerOf, end_of, ledger_at, first_id}
@@ -29,14 +30,14 @@ pub record Seat : Type 0 where
 
 -- that link of an end, and of the frames under way to the other
 pub record SeatAt (m : ℕ) (e : Ends) (s : Seat) : Type 0 where
-  pub link : slice_get e.own.station.links (m - 1) ≡ Some s.link
+  pub link : slice_get e.own.trunk.links (m - 1) ≡ Some s.link
   pub ledgers : slice_get e.own.ledgers (m - 1) ≡ Some s.ledgers
   pub incoming : slice_get e.own.incoming (m - 1) ≡ Some s.incoming
   pub outgoing : slice_get e.other.incoming (m - 1) ≡ Some s.outgoing
 
 -- ---- what happens at the end
 
--- the link is as the station's step leaves it, and what goes out on it is noted and under way, behind a frame of that mark
+-- the link is as the trunk's step leaves it, and what goes out on it is noted and under way, behind a frame of that mark
 abbrev pub seat_posted : ℕ → Link → List (List ℕ) → Seat → Seat
 seat_posted mark now frames s = record {
   link = now;
@@ -63,12 +64,21 @@ IsNoFrame (Takes octets) = ⊥
 
 -- ---- what holds on the link
 
--- these octets are what is sent of some packet of a control protocol
+-- whose packet a frame carries that an end sends: a control protocol's, or BAP's
+pub data Sender : Type 0 where
+  Control : (proto : Proto) → Sender
+  Bap : Sender
+
+abbrev pub sender_number : Sender → ℕ
+sender_number (Control p) = proto_number p
+sender_number Bap = BAP
+
+-- these octets are what is sent of some packet of these
 pub record IsSent (octets : List ℕ) : Type 0 where
   pub form : Form
-  pub proto : Proto
+  pub sender : Sender
   pub info : List ℕ
-  pub is : octets ≡ enc form (proto_number proto) info
+  pub is : octets ≡ enc form (sender_number sender) info
   pub few : length info + 6 ≤ MOST_FRAME
 
 abbrev pub AreSent : List Frame → Type 0
@@ -104,9 +114,9 @@ pub record IsEnd (sa : Setup) (p : Proto) (s : Seat) (a : Auto) : Type 0 where
 abbrev pub seat_duet : Proto → Auto → Seat → End → Duet
 seat_duet p a s b = record { a = end_of a (ledger_at s.ledgers p); b = b; to_a = only p s.incoming; to_b = only p s.outgoing }
 
--- a protocol is configured on that link of an end, with that automaton, and all is well there and at the end's station
+-- a protocol is configured on that link of an end, with that automaton, and all is well there and at the end's trunk
 pub record IsSeated (sa : Setup) (p : Proto) (m : ℕ) (e : Ends) (s : Seat) (a : Auto) : Type 0 where
-  pub station : IsStation e.own.station
+  pub trunk : IsTrunk e.own.trunk
   pub at : SeatAt m e s
   pub well : IsWell s
   pub end : IsEnd sa p s a

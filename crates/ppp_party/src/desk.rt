@@ -5,11 +5,12 @@ ghost use Rattle.ppp_party.specs.Counted.{AllCounted, IsCounted};
 ghost use Rattle.ppp_party.specs.Frame.{marked_frames, noted_frames};
 ghost use Rattle.ppp_party.specs.Party.{each_noted, each_queued, queued, room, AreRoomy};
 ghost use Rattle.ppp_party.specs.Reader.{IsOpen};
-ghost use Rattle.ppp_station.specs.Moves.{AreLinked, IsLinked};
-ghost use Rattle.ppp_station.specs.StationOut.{entry_seen};
-ghost use Rattle.ppp_station.specs.declared.station_out.TheConstants.{MOST_ENTRIES};
+ghost use Rattle.ppp_trunk.specs.Moves.{AreLinked, IsLinked};
+ghost use Rattle.ppp_trunk.specs.StationOut.{entry_seen};
+ghost use Rattle.ppp_trunk.specs.declared.station_out.TheConstants.{MOST_ENTRIES};
 
 use crate::about::About;
+use crate::bap_kind::lent_bap_kind;
 use crate::carried::lent_carried;
 use crate::ledgers::Ledgers;
 use crate::queue::Queue;
@@ -113,5 +114,5 @@ pub(crate) fn post_frame(
     read(reader, octets);
     let carried = lent_carried(reader);
     let mark = ledgers.post(mark, &carried)?;
-    queue.send(mark, About::of(&carried), octets)
+    queue.send(mark, About::of(&carried), lent_bap_kind(reader), octets)
 }

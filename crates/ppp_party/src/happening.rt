@@ -2,13 +2,14 @@
 
 ghost use Rattle.std.specs.Prelude.{◌≡◌, ◌≤◌, length};
 ghost use Rattle.ppp_party.specs.Happening.{happening_seen};
-ghost use Rattle.ppp_station.specs.Moves.{AreLinked};
-ghost use Rattle.ppp_station.specs.Station.{on_link, IsOfLink};
-ghost use Rattle.ppp_station.specs.StationOut.{AreShort};
-ghost use Rattle.ppp_station.specs.declared.station_out.TheConstants.{MOST_ENTRIES};
+ghost use Rattle.ppp_trunk.specs.Moves.{AreLinked};
+ghost use Rattle.ppp_station.specs.Station.{moves};
+ghost use Rattle.ppp_trunk.specs.Trunk.{IsOfLink};
+ghost use Rattle.ppp_trunk.specs.StationOut.{AreShort};
+ghost use Rattle.ppp_trunk.specs.declared.station_out.TheConstants.{MOST_ENTRIES};
 
 use ppp_packet::Proto;
-use ppp_station::{Station, StationEvent, StationOut};
+use ppp_station::{Policy, Station, StationEvent, StationOut};
 
 /// What happens at an end and brings no frame.
 #[derive(Clone, Copy, Debug, PartialEq, Eq)]
@@ -26,19 +27,20 @@ pub enum Happening {
 }
 
 /// It happens at a link of a station.
-pub(crate) fn happen_at(
-    station: &mut Station,
+pub(crate) fn happen_at<F: Policy>(
+    station: &mut Station<F>,
     what: Happening,
     link: u8,
     word: u64,
     out: &mut StationOut,
 )
-    requires { IsOfLink (length station.old.links) link }
-    ensures station { station.new ≡ (on_link (happening_seen what) link station.old word).station }
-    ensures out { out.new ≡ (on_link (happening_seen what) link station.old word).out }
+    requires { IsOfLink (length station.old.station.trunk.links) link }
+    ensures station { station.new.station ≡ (moves (happening_seen what) link station.old.station word).station }
+    ensures policy { station.new.policy ≡ station.old.policy }
+    ensures out { out.new ≡ (moves (happening_seen what) link station.old.station word).out }
     ensures short { AreShort out.new.entries }
     ensures few { length out.new.entries ≤ MOST_ENTRIES }
-    ensures linked { AreLinked (length station.new.links) out.new.entries }
+    ensures linked { AreLinked (length station.new.station.trunk.links) out.new.entries }
 {
     match what {
         Happening::LineUp => station.event(StationEvent::Up(link), word, out),

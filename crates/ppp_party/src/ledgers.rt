@@ -80,7 +80,7 @@ impl Ledgers {
         ensures mark { IfOk result (λ m. m ≡ mark_by self.old mark (option_map carried_seen carried.now)) }
     {
         let Some(carried) = carried else {
-            return Ok(0);
+            return Ok(mark);
         };
         self.note(carried.proto, &carried.packet)?;
         Ok(mark_for(

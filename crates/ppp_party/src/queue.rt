@@ -6,10 +6,11 @@ ghost use Rattle.std.specs.Option.{option_to_list};
 ghost use Rattle.ppp_duet.specs.Duet.{without};
 ghost use Rattle.ppp_duet.specs.Span.{answers, least, requests};
 ghost use Rattle.ppp_party.specs.About.{about_of};
+ghost use Rattle.ppp_party.specs.BapSpans.{bap_answers, bap_kind, bap_requests};
 ghost use Rattle.ppp_party.specs.Frame.{carried, only};
 ghost use Rattle.ppp_party.specs.Party.{queued, room};
 
-use crate::about::About;
+use crate::about::{About, PacketKind};
 use crate::frame::Frame;
 use ppp_memory::Memory;
 use ppp_packet::Proto;
@@ -62,16 +63,18 @@ impl Queue {
         &mut self,
         mark: u64,
         about: Option<About>,
+        bap: Option<PacketKind>,
         octets: &[u8],
     ) -> Result<(), Memory>
-        requires { about ≡ about_of (carried octets.now) }
+        requires about { about ≡ about_of (carried octets.now) }
+        requires bap { bap ≡ bap_kind octets.now }
         ensures ok { OnOk result (self.new ≡ queued self.old (record { mark = mark; octets = octets.now } ∷ [])) }
         ensures few { length self.new ≤ room }
     {
         if self.frames.len() >= ROOM {
             return Ok(());
         }
-        let frame = Frame::new(self.alloc, mark, about, octets)?;
+        let frame = Frame::new(self.alloc, mark, about, bap, octets)?;
         put(&mut self.frames, frame)
     }
 
@@ -120,6 +123,28 @@ impl Queue {
         let mut oldest = first;
         for i in 0..self.frames.len() {
             oldest = lesser(oldest, self.frames[i].answer_mark(proto));
+        }
+        oldest
+    }
+
+    /// The least of a number and the ordinals of BAP's requests in the queue.
+    pub(crate) fn oldest_bap_request(&self, first: u64) -> u64
+        ensures { result ≡ least first (bap_requests self.now) }
+    {
+        let mut oldest = first;
+        for i in 0..self.frames.len() {
+            oldest = lesser(oldest, self.frames[i].bap_request_mark());
+        }
+        oldest
+    }
+
+    /// The least of a number and the ordinals of what BAP's answers in the queue answer.
+    pub(crate) fn oldest_bap_answer(&self, first: u64) -> u64
+        ensures { result ≡ least first (bap_answers self.now) }
+    {
+        let mut oldest = first;
+        for i in 0..self.frames.len() {
+            oldest = lesser(oldest, self.frames[i].bap_answer_mark());
         }
         oldest
     }

@@ -3,7 +3,7 @@
 ghost use Rattle.std.specs.Prelude.{◌≡◌, IfOk};
 ghost use Rattle.ppp_link.specs.declared.link.TheConstants.{MOST_FRAME};
 ghost use Rattle.ppp_party.specs.Reader.{IsOpen};
-ghost use Rattle.ppp_station.specs.Orders.{read_in};
+ghost use Rattle.ppp_trunk.specs.Orders.{read_in};
 
 use ppp_frame::{Deframer, FLAG};
 use ppp_link::MOST_FRAME;

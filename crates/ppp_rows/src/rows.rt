@@ -208,7 +208,7 @@ fn feeds_what_was_worked_out(rt: HostRuntime) {
     // LCP without options, and IPCP
     let network = "version = 1\n[a]\nmagic = false\nprotocols = [\"ip\"]\nip = \"10.0.0.1\"\n---\n";
     // what stands before the lines, the lines, the status, and the output
-    let rows: [(&str, &str, Status, &str); 14] = [
+    let rows: [(&str, &str, Status, &str); 15] = [
         // a packet with an unknown code, before LCP is opened
         (
             single,
@@ -289,12 +289,8 @@ fn feeds_what_was_worked_out(rt: HostRuntime) {
         // lines that are refused
         (single, "up a 1\n", Status::BadLine(1), "line 1 Event\n"),
         (single, "up 1\nup 2\n", Status::BadLine(2), "line 2 Link\n"),
-        (
-            single,
-            "timeout 1 bap\n",
-            Status::BadLine(1),
-            "line 1 Event\n",
-        ),
+        (single, "timeout 1 bap\n", Status::Ok, ""),
+        (single, "call 1\n", Status::BadLine(1), "line 1 Event\n"),
         (
             single,
             "up 1\nbytes 1 7e7\n",

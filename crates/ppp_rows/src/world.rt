@@ -1,12 +1,15 @@
 //! A world stepped event by event.
 
+ghost use Rattle.std.specs.Prelude.{◌≡◌, IfOk, None};
+
 use crate::worlds::{shown_behind, step};
-use ppp_conf::read_config;
+use ppp_conf::{Config, read_config};
 use ppp_frame::FrameRef;
 use ppp_packet::Proto;
 use ppp_script::{End, Event};
-use ppp_station::Station;
-use ppp_world::World;
+use ppp_station::{CallAsk, Policy, Station};
+use ppp_world::{Memory, World};
+use std::alloc::Global;
 use std::process::Abort;
 
 /// What is Opened on a single link: every protocol but BACP.
@@ -28,12 +31,32 @@ const BUNDLED: &str = "version = 1\nlinks = 2\n\
 const OPENING: &str =
     "up a 1\nopen a 1 lcp\nup b 1\nopen b 1 lcp\nup a 2\nopen a 2 lcp\nup b 2\nopen b 2 lcp\nsettle 60\n";
 
+/// A world of these settings as it begins.
+fn make_world<F: Policy + Drop, G: Policy + Drop>(
+    alloc: Global,
+    config: &Config,
+    policy_a: F,
+    policy_b: G,
+) -> Result<World<F, G>, Memory>
+    requires a { F.may policy_a }
+    requires b { G.may policy_b }
+    ensures { IfOk result (λ world. world.world.halt ≡ None) }
+{
+    World::new(alloc, config, policy_a, policy_b)
+}
+
 #[test]
 fn two_opened_ends_agree(rt: HostRuntime) {
     let Ok(config) = read_config(rt.alloc(), b"version = 1") else {
         panic!(&rt; "these settings are refused");
     };
-    let mut world = World::new(rt.alloc(), &config).expect(&rt, "memory");
+    let mut world = make_world(
+        rt.alloc(),
+        &config,
+        |_: &CallAsk| false,
+        |_: &CallAsk| false,
+    )
+    .expect(&rt, "memory");
     assert_eq!(rt; world.agree(1, Proto::Lcp), None);
     step(&mut world, &Event::Up(End::A, 1)).expect(&rt, "a step");
     step(&mut world, &Event::AdminOpen(End::A, 1, Proto::Lcp)).expect(&rt, "a step");
@@ -49,7 +72,13 @@ fn two_opened_ends_agree(rt: HostRuntime) {
 
 #[test]
 fn each_protocol_opens_on_each_single_link(rt: HostRuntime) {
-    let world = shown_behind(rt.alloc(), SINGLE, OPENING).expect(&rt, "a world");
+    let world = shown_behind(
+        rt.alloc(),
+        SINGLE,
+        OPENING,
+        (|_: &CallAsk| false, |_: &CallAsk| false),
+    )
+    .expect(&rt, "a world");
     let report = "show 69\n\
         1 lcp Opened Opened 050600000004 050600000009 050600000009 050600000004 agree yes\n\
         1 ip Opened Opened 03060a000001 03060a000002 03060a000002 03060a000001 agree yes\n\
@@ -72,7 +101,13 @@ fn each_protocol_opens_on_each_single_link(rt: HostRuntime) {
 
 #[test]
 fn control_protocols_open_on_the_control_link(rt: HostRuntime) {
-    let world = shown_behind(rt.alloc(), BUNDLED, OPENING).expect(&rt, "a world");
+    let world = shown_behind(
+        rt.alloc(),
+        BUNDLED,
+        OPENING,
+        (|_: &CallAsk| false, |_: &CallAsk| false),
+    )
+    .expect(&rt, "a world");
     let report = "show 69\n\
         1 lcp Opened Opened 050600000004110405dc130401611704000a 050600000009110405dc1304016217040014 \
         050600000009110405dc1304016217040014 050600000004110405dc130401611704000a agree yes\n\
@@ -96,7 +131,7 @@ fn control_protocols_open_on_the_control_link(rt: HostRuntime) {
 }
 
 /// The frame that the deframer of a station's first link lends.
-fn lent<'a>(rt: &impl Abort, station: &'a Station) -> FrameRef<'a> {
+fn lent<'a, F: Policy>(rt: &impl Abort, station: &'a Station<F>) -> FrameRef<'a> {
     assert!(rt; station.links() >= 1);
     let deframer = station.link(1).deframer();
     assert!(rt; deframer.has_frame());
@@ -109,6 +144,7 @@ fn a_delivery_leaves_its_frame_in_the_deframer(rt: HostRuntime) {
         rt.alloc(),
         "version = 1",
         "up a 1\nopen a 1 lcp\nup b 1\nopen b 1 lcp\ndeliver b 1\ndeliver a 1\ndeliver a 1\n",
+        (|_: &CallAsk| false, |_: &CallAsk| false),
     )
     .expect(&rt, "a world");
     // end a took b's request and then its Ack, and b took a's request

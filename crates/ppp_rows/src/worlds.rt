@@ -1,10 +1,12 @@
 //! Worlds in which events were done.
 
 ghost use Rattle.std.specs.Prelude.{◌≡◌, OnOk, IfOk, None};
-ghost use Rattle.ppp_world.specs.World.{world_after};
+ghost use Rattle.ppp_world.specs.Says.{by_end};
+ghost use Rattle.ppp_world.specs.World.{Does};
 
 use ppp_conf::read_config;
 use ppp_script::{Event, read_script, steps_of};
+use ppp_station::Policy;
 use ppp_world::World;
 use std::alloc::Global;
 
@@ -32,9 +34,10 @@ pub enum Undone {
 
 /// Does the steps of an event. Undone comes where the world refuses one of them, or has done more than 90,000 before; an event
 /// has at most 1,000.
-pub fn step(world: &mut World, event: &Event) -> Result<(), Undone>
-    ensures going { OnOk result (world.new.halt ≡ None) }
-    ensures done { OnOk result (world.new ≡ world_after world.old event.now) }
+pub fn step<F: Policy, G: Policy>(world: &mut World<F, G>, event: &Event) -> Result<(), Undone>
+    ensures going { OnOk result (world.new.world.halt ≡ None) }
+    ensures done { OnOk result (Does (by_end (F.says world.old.policy_a) (G.says world.old.policy_b))
+        event.now world.old.world world.new.world) }
 {
     if world.steps() > MOST_BEFORE || steps_of(event) > MOST_OF_EVENT {
         return Err(Undone::Step);
@@ -45,9 +48,16 @@ pub fn step(world: &mut World, event: &Event) -> Result<(), Undone>
     }
 }
 
-/// A world of settings in which these lines were done, and then the states reported.
-pub fn shown_behind(alloc: Global, settings: &str, lines: &str) -> Result<World, Undone>
-    ensures { IfOk result (λ world. world.halt ≡ None) }
+/// A world of settings, with the policies of end a and of end b, in which these lines were done, and then the states reported.
+pub fn shown_behind<F: Policy + Drop, G: Policy + Drop>(
+    alloc: Global,
+    settings: &str,
+    lines: &str,
+    policies: (F, G),
+) -> Result<World<F, G>, Undone>
+    requires a { F.may policies.0 }
+    requires b { G.may policies.1 }
+    ensures { IfOk result (λ world. world.world.halt ≡ None) }
 {
     if lines.len() > MOST_LINES {
         return Err(Undone::Lines);
@@ -58,7 +68,8 @@ pub fn shown_behind(alloc: Global, settings: &str, lines: &str) -> Result<World,
     let Ok(script) = read_script(alloc, lines.as_bytes(), config.links) else {
         return Err(Undone::Lines);
     };
-    let Ok(mut world) = World::new(alloc, &config) else {
+    let (policy_a, policy_b) = policies;
+    let Ok(mut world) = World::new(alloc, &config, policy_a, policy_b) else {
         return Err(Undone::Memory);
     };
     for i in 0..script.count() {

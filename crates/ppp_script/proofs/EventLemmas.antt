@@ -12,17 +12,21 @@ use Rattle.ppp_text.proofs.NumbersLemmas.{number_in-decimal, lacks-decimal}
 use Rattle.ppp_script.specs.declared.end.End.{End}
 use Rattle.ppp_script.specs.declared.end.End.TheVariants.{A, B}
 use Rattle.ppp_script.specs.declared.event.Event.{Event}
-use Rattle.ppp_script.specs.declared.event.Event.TheVariants.{Up, Down, AdminOpen, AdminClose, Timeout, Deliver, Lose, Settle, Reboot, Show}
+use Rattle.ppp_script.specs.declared.event.Event.TheVariants.{Up, Down, AdminOpen, AdminClose, Timeout, BapTimeout, Deliver, Lose, Settle, Reboot, Call, Callback, Drop, Status, Show}
 use Rattle.ppp_script.specs.declared.field.TheConstants.{MOST_LINKS}
-use Rattle.ppp_script.specs.declared.event.TheConstants.{MOST_PLACE, MOST_SETTLED}
+use Rattle.ppp_script.specs.declared.event.TheConstants.{MOST_PLACE, MOST_SETTLED, MOST_STATUS}
 use Rattle.ppp_script.specs.declared.line_why.LineWhy.{LineWhy}
+use Rattle.ppp_script.specs.declared.timer.Timer.{Timer}
+use Rattle.ppp_script.specs.declared.timer.Timer.TheVariants.{Restart, Bap}
 use Rattle.ppp_script.specs.End.{end_name}
-use Rattle.ppp_script.specs.Event.{IsWithin, event_fields, event_text, place_in, placed, last_number, last_end, place_fields, rows, event_in, event_of}
+use Rattle.ppp_script.specs.Event.{IsWithin, event_fields, event_text, place_in, placed, last_number, last_end, place_fields, timeout_fields, timeout, bap_rows, rows, event_in, event_of}
 use Rattle.ppp_script.specs.Field.{next_field, no_more, number_field, end_in, link_in, last_protocol, IsLink}
 use Rattle.ppp_script.specs.Results.{◌>>=◌}
 use Rattle.ppp_script.specs.Row.{row, read_as}
+use Rattle.ppp_script.specs.Timer.{timer_name, last_timer}
 use Rattle.ppp_script.proofs.FieldLemmas.{Spaceless, inside, next_field-is, no_more-is, number_field-is, end_in-is, link_in-is, last_protocol-is, last_protocol-name, link_in-decimal, spaceless_number, spaceless_protocol}
 use Rattle.ppp_script.proofs.RowLemmas.{ReadsIts, read_by-is, row_is}
+use Rattle.ppp_script.proofs.TimerLemmas.{last_timer-is, last_timer-name, spaceless_timer}
 
 -- what reads as a value is its text
 
@@ -83,9 +87,19 @@ protocol_row : (links : ℕ) (word : List ℕ) (make : End → ℕ → Proto →
 protocol_row links word make is_event = text_row word (placed links last_protocol) (λ p. make p.0 p.1 p.2) (λ p. place_fields p.0 p.1 (proto_name p.2 ∷ []))
     (placed-is links last_protocol (λ protocol. proto_name protocol ∷ []) last_protocol-is) (λ p. is_event p.0 p.1 p.2)
 
-lose_row : (links : ℕ) → ReadsIts IsText (row (codes "lose") (read_as (placed links (last_number 1 MOST_PLACE)) (λ p. Lose p.0 p.1 p.2)))
-lose_row links = text_row (codes "lose") (placed links (last_number 1 MOST_PLACE)) (λ p. Lose p.0 p.1 p.2) (λ p. place_fields p.0 p.1 (decimal p.2 ∷ []))
-    (placed-is links (last_number 1 MOST_PLACE) (λ n. decimal n ∷ []) (last_number-is 1 MOST_PLACE (omega arith))) (λ p. refl)
+timeout-fields : (end : End) (link : ℕ) (timer : Timer) → timeout_fields end link timer ≡ event_fields (timeout end link timer)
+timeout-fields end link (Restart protocol) = refl
+timeout-fields end link Bap = refl
+
+timeout_row : (links : ℕ) → ReadsIts IsText (row (codes "timeout") (read_as (placed links last_timer) (λ p. timeout p.0 p.1 p.2)))
+timeout_row links = text_row (codes "timeout") (placed links last_timer) (λ p. timeout p.0 p.1 p.2) (λ p. place_fields p.0 p.1 (timer_name p.2 ∷ []))
+    (placed-is links last_timer (λ timer. timer_name timer ∷ []) last_timer-is) (λ p. timeout-fields p.0 p.1 p.2)
+
+number_row : (links least most : ℕ) (word : List ℕ) (make : End → ℕ → ℕ → Event) → most < 2 ^ 64 →
+    ((end : End) (link n : ℕ) → word ∷ place_fields end link (decimal n ∷ []) ≡ event_fields (make end link n)) →
+    ReadsIts IsText (row word (read_as (placed links (last_number least most)) (λ p. make p.0 p.1 p.2)))
+number_row links least most word make fits is_event = text_row word (placed links (last_number least most)) (λ p. make p.0 p.1 p.2) (λ p. place_fields p.0 p.1 (decimal p.2 ∷ []))
+    (placed-is links (last_number least most) (λ n. decimal n ∷ []) (last_number-is least most fits)) (λ p. is_event p.0 p.1 p.2)
 
 settle_row : ReadsIts IsText (row (codes "settle") (read_as (last_number 1 MOST_SETTLED) Settle))
 settle_row = text_row (codes "settle") (last_number 1 MOST_SETTLED) Settle (λ n. decimal n ∷ []) (last_number-is 1 MOST_SETTLED (omega arith)) (λ n. refl)
@@ -96,12 +110,19 @@ reboot_row = text_row (codes "reboot") last_end Reboot (λ end. end_name end ∷
 show_row : ReadsIts IsText (row (codes "show") (read_as no_more (λ nothing. Show)))
 show_row = text_row (codes "show") no_more (λ nothing. Show) (λ nothing. []) no_more-is (λ nothing. refl)
 
+bap_rows_are : (links : ℕ) → AllByRecursion (ReadsIts IsText) (bap_rows links)
+bap_rows_are links =
+    let by_link = link_row links in
+    let few : AllByRecursion (ReadsIts IsText) (drop 2 (bap_rows links)) =
+    (by_link (codes "drop") Drop (λ e l. refl), (number_row links 0 MOST_STATUS (codes "status") Status (omega arith) (λ e l n. refl), tt)) in
+    (by_link (codes "call") Call (λ e l. refl), (by_link (codes "callback") Callback (λ e l. refl), few))
+
 rows_are : (links : ℕ) → AllByRecursion (ReadsIts IsText) (rows links)
 rows_are links =
     let by_link = link_row links in
     let by_protocol = protocol_row links in
-    let few : AllByRecursion (ReadsIts IsText) (drop 6 (rows links)) = (lose_row links, (settle_row, (reboot_row, (show_row, tt)))) in
-    let some : AllByRecursion (ReadsIts IsText) (drop 4 (rows links)) = (by_protocol (codes "timeout") Timeout (λ e l p. refl), (by_link (codes "deliver") Deliver (λ e l. refl), few)) in
+    let few : AllByRecursion (ReadsIts IsText) (drop 6 (rows links)) = (number_row links 1 MOST_PLACE (codes "lose") Lose (omega arith) (λ e l n. refl), (settle_row, (reboot_row, (show_row, bap_rows_are links)))) in
+    let some : AllByRecursion (ReadsIts IsText) (drop 4 (rows links)) = (timeout_row links, (by_link (codes "deliver") Deliver (λ e l. refl), few)) in
     let more : AllByRecursion (ReadsIts IsText) (drop 2 (rows links)) = (by_protocol (codes "open") AdminOpen (λ e l p. refl), (by_protocol (codes "close") AdminClose (λ e l p. refl), some)) in
     (by_link (codes "up") Up (λ e l. refl), (by_link (codes "down") Down (λ e l. refl), more))
 
@@ -149,6 +170,21 @@ protocol_reads links link end protocol few is = (
   placed-fields links link end last_protocol (proto_name protocol ∷ []) protocol few is (last_protocol-name protocol),
 )
 
+number_reads : (links link least most n : ℕ) (end : End) → links ≤ MOST_LINKS → IsLink links link → most < 2 ^ 64 → least ≤ n → n ≤ most →
+    All Spaceless (place_fields end link (decimal n ∷ [])) × (placed links (last_number least most) (place_fields end link (decimal n ∷ [])) ≡ Ok (end, link, n))
+number_reads links link least most n end few is fits low high = (
+  spaceless_place end link (decimal n ∷ []) (omega (arith, is.1)) (spaceless_number n (omega (arith, high, fits))),
+  placed-fields links link end (last_number least most) (decimal n ∷ []) n few is (last_number-decimal least most n fits low high),
+)
+
+timeout-text : (links link : ℕ) (end : End) (timer : Timer) → links ≤ MOST_LINKS → IsLink links link → event_of links (line_with (timeout_fields end link timer)) ≡ Ok (timeout end link timer)
+unfolding event_in
+timeout-text links link end timer few is =
+    let reads = placed-fields links link end last_timer (timer_name timer ∷ []) timer few is (last_timer-name timer) in
+    event_of-fields links (codes "timeout") (place_fields end link (timer_name timer ∷ [])) (timeout end link timer) (spaceless (codes "timeout") refl)
+    (spaceless_place end link (timer_name timer ∷ []) (omega (arith, is.1)) (All-cons Spaceless (timer_name timer) [] (spaceless_timer timer) (All-nil Spaceless)))
+    (rw reads refl)
+
 last_end-name : (end : End) → last_end (end_name end ∷ []) ≡ Ok end
 unfolding last_end
 last_end-name A = refl
@@ -166,20 +202,26 @@ event_of-text links (AdminOpen end link protocol) few is =
 event_of-text links (AdminClose end link protocol) few is =
     let r = protocol_reads links link end protocol few is in
     event_of-fields links (codes "close") (place_fields end link (proto_name protocol ∷ [])) (AdminClose end link protocol) (spaceless (codes "close") refl) r.0 (rw r.1 refl)
-event_of-text links (Timeout end link protocol) few is =
-    let r = protocol_reads links link end protocol few is in
-    event_of-fields links (codes "timeout") (place_fields end link (proto_name protocol ∷ [])) (Timeout end link protocol) (spaceless (codes "timeout") refl) r.0 (rw r.1 refl)
+event_of-text links (Timeout end link protocol) few is = timeout-text links link end (Restart protocol) few is
+event_of-text links (BapTimeout end link) few is = timeout-text links link end Bap few is
 event_of-text links (Deliver end link) few is =
     let r = link_reads links link end few is in event_of-fields links (codes "deliver") (place_fields end link []) (Deliver end link) (spaceless (codes "deliver") refl) r.0 (rw r.1 refl)
 event_of-text links (Lose end link place) few is =
-    let number = last_number-decimal 1 MOST_PLACE place (omega arith) is.1.0 is.1.1 in
-    event_of-fields links (codes "lose") (place_fields end link (decimal place ∷ [])) (Lose end link place) (spaceless (codes "lose") refl)
-    (spaceless_place end link (decimal place ∷ []) (omega (arith, is.0.1)) (spaceless_number place (omega (arith, is.1.1))))
-    (rw (placed-fields links link end (last_number 1 MOST_PLACE) (decimal place ∷ []) place few is.0 number) refl)
+    let r = number_reads links link 1 MOST_PLACE place end few is.0 (omega arith) is.1.0 is.1.1 in
+    event_of-fields links (codes "lose") (place_fields end link (decimal place ∷ [])) (Lose end link place) (spaceless (codes "lose") refl) r.0 (rw r.1 refl)
 event_of-text links (Settle count) few is =
     event_of-fields links (codes "settle") (decimal count ∷ []) (Settle count) (spaceless (codes "settle") refl) (spaceless_number count (omega (arith, is.1)))
     (rw (last_number-decimal 1 MOST_SETTLED count (omega arith) is.0 is.1) refl)
 event_of-text links (Reboot end) few is =
     event_of-fields links (codes "reboot") (end_name end ∷ []) (Reboot end) (spaceless (codes "reboot") refl)
     (All-cons Spaceless (end_name end) [] (spaceless_end end) (All-nil Spaceless)) (rw (last_end-name end) refl)
+event_of-text links (Call end link) few is =
+    let r = link_reads links link end few is in event_of-fields links (codes "call") (place_fields end link []) (Call end link) (spaceless (codes "call") refl) r.0 (rw r.1 refl)
+event_of-text links (Callback end link) few is =
+    let r = link_reads links link end few is in event_of-fields links (codes "callback") (place_fields end link []) (Callback end link) (spaceless (codes "callback") refl) r.0 (rw r.1 refl)
+event_of-text links (Drop end link) few is =
+    let r = link_reads links link end few is in event_of-fields links (codes "drop") (place_fields end link []) (Drop end link) (spaceless (codes "drop") refl) r.0 (rw r.1 refl)
+event_of-text links (Status end link status) few is =
+    let r = number_reads links link 0 MOST_STATUS status end few is.0 (omega arith) (omega arith) is.1 in
+    event_of-fields links (codes "status") (place_fields end link (decimal status ∷ [])) (Status end link status) (spaceless (codes "status") refl) r.0 (rw r.1 refl)
 event_of-text links Show few is = event_of-fields links (codes "show") [] Show (spaceless (codes "show") refl) (All-nil Spaceless) refl

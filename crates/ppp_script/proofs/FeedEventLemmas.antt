@@ -21,17 +21,21 @@ use Rattle.ppp_text.specs.Fields.{fields_of, line_with}
 use Rattle.ppp_text.proofs.FieldsLemmas.{line_with-fields_of, fields_of-line_with, spaceless}
 use Rattle.ppp_text.proofs.NumbersLemmas.{lacks-decimal}
 use Rattle.ppp_script.specs.declared.feed_event.FeedEvent.{FeedEvent}
-use Rattle.ppp_script.specs.declared.feed_event.FeedEvent.TheVariants.{Up, Down, AdminOpen, AdminClose, Timeout, Bytes}
+use Rattle.ppp_script.specs.declared.feed_event.FeedEvent.TheVariants.{Up, Down, AdminOpen, AdminClose, Timeout, BapTimeout, Bytes}
 use Rattle.ppp_script.specs.declared.field.TheConstants.{MOST_LINKS}
 use Rattle.ppp_script.specs.declared.line_why.LineWhy.{LineWhy}
-use Rattle.ppp_script.specs.FeedEvent.{IsWithin, feed_fields, feed_text, linked, last_octets, plain_rows, bytes_row, feed_in, feed_of}
+use Rattle.ppp_script.specs.declared.timer.Timer.{Timer}
+use Rattle.ppp_script.specs.declared.timer.Timer.TheVariants.{Restart, Bap}
+use Rattle.ppp_script.specs.FeedEvent.{IsWithin, feed_fields, feed_text, timeout_fields, linked, last_octets, timeout, plain_rows, bytes_row, feed_in, feed_of}
 use Rattle.ppp_script.specs.Field.{next_field, next_link, no_more, last_field, last_protocol, IsLink}
 use Rattle.ppp_script.specs.Octets.{octets_in, IsOctets}
 use Rattle.ppp_script.specs.Results.{◌>>=◌}
 use Rattle.ppp_script.specs.Row.{row, read_as}
+use Rattle.ppp_script.specs.Timer.{timer_name, last_timer}
 use Rattle.ppp_script.proofs.FieldLemmas.{Spaceless, inside, next_field-is, next_link-is, no_more-is, last_field-is, last_protocol-is, last_protocol-name, next_link-decimal, next_link-most, spaceless_protocol}
 use Rattle.ppp_script.proofs.OctetsLemmas.{octets_in-lower, octets_in-digits, digits_spaceless}
 use Rattle.ppp_script.proofs.RowLemmas.{ReadsIts, read_by-is, row_is}
+use Rattle.ppp_script.proofs.TimerLemmas.{last_timer-is, last_timer-name, spaceless_timer}
 
 -- ---- lines in lower case
 
@@ -71,6 +75,10 @@ name_lower Osi = refl
 name_lower Mpls = refl
 name_lower Bacp = refl
 
+timer_lower : (timer : Timer) → str_to_ascii_lowercase (timer_name timer) ≡ timer_name timer
+timer_lower (Restart protocol) = name_lower protocol
+timer_lower Bap = refl
+
 -- ---- what reads as an event is its text, but for the case of its hex digits
 
 -- a line in lower case is its event's text
@@ -106,6 +114,16 @@ protocol_row : (links : ℕ) (word : List ℕ) (make : ℕ → Proto → FeedEve
     ReadsIts IsText (row word (read_as (linked links last_protocol) (λ p. make p.0 p.1)))
 protocol_row links word make same is_event = linked_row links word last_protocol make (λ protocol. proto_name protocol ∷ []) same protocol_lower is_event
 
+last_timer-lower : (fields : List (List ℕ)) (timer : Timer) → last_timer fields ≡ Ok timer → all_lower fields ≡ timer_name timer ∷ []
+last_timer-lower fields timer is = ap all_lower (last_timer-is fields timer is) ∙ ap (λ name. name ∷ []) (timer_lower timer)
+
+timeout-fields : (link : ℕ) (timer : Timer) → timeout_fields link timer ≡ feed_fields (timeout link timer)
+timeout-fields link (Restart protocol) = refl
+timeout-fields link Bap = refl
+
+timeout_row : (links : ℕ) → ReadsIts IsText (row (codes "timeout") (read_as (linked links last_timer) (λ p. timeout p.0 p.1)))
+timeout_row links = linked_row links (codes "timeout") last_timer timeout (λ timer. timer_name timer ∷ []) refl last_timer-lower timeout-fields
+
 last_octets-lower : (fields : List (List ℕ)) (octets : List ℕ) → last_octets fields ≡ Ok octets → all_lower fields ≡ encode_lower octets ∷ []
 unfolding last_octets
 last_octets-lower fields octets is =
@@ -126,7 +144,7 @@ rows_are links = (
         protocol_row links (codes "open") AdminOpen refl (λ l p. refl),
         (
           protocol_row links (codes "close") AdminClose refl (λ l p. refl),
-          (protocol_row links (codes "timeout") Timeout refl (λ l p. refl), tt),
+          (timeout_row links, tt),
         ),
       ),
     ),
@@ -162,6 +180,12 @@ last_octets-digits : (octets : List ℕ) → IsOctets octets → last_octets (en
 unfolding last_octets
 last_octets-digits octets is = octets_in-digits octets is
 
+timeout-text : (links link : ℕ) (timer : Timer) → links ≤ MOST_LINKS → IsLink links link → feed_of links (line_with (timeout_fields link timer)) ≡ Ok (timeout link timer)
+unfolding feed_in
+timeout-text links link timer few is =
+    feed_of-fields links link (codes "timeout") (timer_name timer ∷ []) (timeout link timer) few is (spaceless (codes "timeout") refl) (one_field (timer_name timer) (spaceless_timer timer))
+    (rw (linked-fields links link last_timer (timer_name timer ∷ []) timer few is (last_timer-name timer)) refl)
+
 pub feed_of-text : (links : ℕ) (event : FeedEvent) → links ≤ MOST_LINKS → IsWithin links event → feed_of links (feed_text event) ≡ Ok event
 unfolding feed_in
 feed_of-text links (Up link) few is =
@@ -174,9 +198,8 @@ feed_of-text links (AdminOpen link protocol) few is =
 feed_of-text links (AdminClose link protocol) few is =
     feed_of-fields links link (codes "close") (proto_name protocol ∷ []) (AdminClose link protocol) few is (spaceless (codes "close") refl) (one_field (proto_name protocol) (spaceless_protocol protocol))
     (rw (linked-fields links link last_protocol (proto_name protocol ∷ []) protocol few is (last_protocol-name protocol)) refl)
-feed_of-text links (Timeout link protocol) few is =
-    feed_of-fields links link (codes "timeout") (proto_name protocol ∷ []) (Timeout link protocol) few is (spaceless (codes "timeout") refl) (one_field (proto_name protocol) (spaceless_protocol protocol))
-    (rw (linked-fields links link last_protocol (proto_name protocol ∷ []) protocol few is (last_protocol-name protocol)) refl)
+feed_of-text links (Timeout link protocol) few is = timeout-text links link (Restart protocol) few is
+feed_of-text links (BapTimeout link) few is = timeout-text links link Bap few is
 feed_of-text links (Bytes link octets) few is =
     feed_of-fields links link (codes "bytes") (encode_lower octets ∷ []) (Bytes link octets) few is.0 (spaceless (codes "bytes") refl) (one_field (encode_lower octets) (digits_spaceless octets is.1))
     (rw (linked-fields links link last_octets (encode_lower octets ∷ []) octets few is.0 (last_octets-digits octets is.1)) refl)

@@ -4,3 +4,5 @@ pub mod FieldLemmas
 pub mod OctetsLemmas
 pub mod RowLemmas
 pub mod ScriptLemmas
+mod StandardFacts
+mod TimerLemmas

@@ -5,13 +5,16 @@ use Rattle.hex.specs.Hex.{encode_lower}
 use Rattle.ppp_packet.specs.Proto.{proto_name}
 use Rattle.ppp_text.specs.Fields.{fields_of, line_with}
 use Rattle.ppp_script.specs.declared.feed_event.FeedEvent.{FeedEvent}
-use Rattle.ppp_script.specs.declared.feed_event.FeedEvent.TheVariants.{Up, Down, AdminOpen, AdminClose, Timeout, Bytes}
+use Rattle.ppp_script.specs.declared.feed_event.FeedEvent.TheVariants.{Up, Down, AdminOpen, AdminClose, Timeout, BapTimeout, Bytes}
 use Rattle.ppp_script.specs.declared.line_why.LineWhy.{LineWhy}
+use Rattle.ppp_script.specs.declared.timer.Timer.{Timer}
+use Rattle.ppp_script.specs.declared.timer.Timer.TheVariants.{Restart, Bap}
 use Rattle.ppp_script.specs.Field.{next_field, next_link, no_more, last_field, last_protocol, IsLink}
 use Rattle.ppp_script.specs.Line.{Form}
 use Rattle.ppp_script.specs.Octets.{octets_in, IsOctets}
 use Rattle.ppp_script.specs.Results.{◌>>=◌}
 use Rattle.ppp_script.specs.Row.{Row, row, read_as, read_by}
+use Rattle.ppp_script.specs.Timer.{timer_name, last_timer}
 
 -- an event's numbers and octets are within their bounds, where so many links are configured
 abbrev pub IsWithin : ℕ → FeedEvent → Type 0
@@ -20,15 +23,20 @@ IsWithin links (Down link) = IsLink links link
 IsWithin links (AdminOpen link protocol) = IsLink links link
 IsWithin links (AdminClose link protocol) = IsLink links link
 IsWithin links (Timeout link protocol) = IsLink links link
+IsWithin links (BapTimeout link) = IsLink links link
 IsWithin links (Bytes link octets) = IsLink links link × IsOctets octets
 
 -- the fields of an event's line
+abbrev pub timeout_fields : ℕ → Timer → List (List ℕ)
+timeout_fields link timer = codes "timeout" ∷ decimal link ∷ timer_name timer ∷ []
+
 abbrev pub feed_fields : FeedEvent → List (List ℕ)
 feed_fields (Up link) = codes "up" ∷ decimal link ∷ []
 feed_fields (Down link) = codes "down" ∷ decimal link ∷ []
 feed_fields (AdminOpen link protocol) = codes "open" ∷ decimal link ∷ proto_name protocol ∷ []
 feed_fields (AdminClose link protocol) = codes "close" ∷ decimal link ∷ proto_name protocol ∷ []
-feed_fields (Timeout link protocol) = codes "timeout" ∷ decimal link ∷ proto_name protocol ∷ []
+feed_fields (Timeout link protocol) = timeout_fields link (Restart protocol)
+feed_fields (BapTimeout link) = timeout_fields link Bap
 feed_fields (Bytes link octets) = codes "bytes" ∷ decimal link ∷ encode_lower octets ∷ []
 
 -- the line of an event, without an end; its hex digits are in lower case
@@ -46,6 +54,11 @@ linked links last fields = do
 unfoldable pub last_octets : List (List ℕ) → Result (List ℕ) LineWhy
 last_octets fields = last_field fields >>= octets_in
 
+-- a timer fires
+abbrev pub timeout : ℕ → Timer → FeedEvent
+timeout link (Restart protocol) = Timeout link protocol
+timeout link Bap = BapTimeout link
+
 -- the rows by which a line is read, but for the one with octets
 abbrev pub plain_rows : ℕ → List (Row FeedEvent)
 plain_rows links =
@@ -53,7 +66,7 @@ plain_rows links =
     ∷ row (codes "down") (read_as (linked links no_more) (λ p. Down p.0))
     ∷ row (codes "open") (read_as (linked links last_protocol) (λ p. AdminOpen p.0 p.1))
     ∷ row (codes "close") (read_as (linked links last_protocol) (λ p. AdminClose p.0 p.1))
-    ∷ row (codes "timeout") (read_as (linked links last_protocol) (λ p. Timeout p.0 p.1))
+    ∷ row (codes "timeout") (read_as (linked links last_timer) (λ p. timeout p.0 p.1))
     ∷ []
 
 abbrev pub bytes_row : ℕ → Row FeedEvent

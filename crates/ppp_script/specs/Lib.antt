@@ -9,3 +9,4 @@ pub mod Results
 pub mod Row
 pub mod Script
 pub mod ScriptFault
+pub mod Timer

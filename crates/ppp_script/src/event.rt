@@ -1,15 +1,18 @@
 //! The events of a replay, and the lines that read as them.
 
 ghost use Rattle.std.specs.Prelude.{◌≡◌, ◌≤◌, IfOk, Some};
-ghost use Rattle.ppp_script.specs.declared.event.TheConstants.{MOST_PLACE, MOST_SETTLED};
-ghost use Rattle.ppp_script.specs.Event.{steps_in, IsWithin, event_text, place_in, placed, last_number, last_end, event_in, event_of, event_form};
+ghost use Rattle.ppp_script.specs.declared.event.TheConstants.{MOST_PLACE, MOST_SETTLED, MOST_STATUS};
+ghost use Rattle.ppp_script.specs.Event.{steps_in, IsWithin, event_text, place_in, placed, last_number, last_end, timeout, bap_rows, event_in, event_of, event_form};
 ghost use Rattle.ppp_script.specs.Field.{no_more, last_protocol, IsLink};
 ghost use Rattle.ppp_script.specs.Results.{Gives};
+ghost use Rattle.ppp_script.specs.Row.{read_by};
+ghost use Rattle.ppp_script.specs.Timer.{last_timer};
 
 use crate::end::End;
 use crate::field::{end, last_protocol, link, next_field, no_more, number_field};
 use crate::line::Line;
 use crate::line_why::LineWhy;
+use crate::timer::{Timer, last_timer};
 use ppp_packet::Proto;
 use ppp_text::Fields;
 use std::alloc::{AllocError, Global};
@@ -20,6 +23,9 @@ pub const MOST_PLACE: u16 = 1024;
 
 /// The most steps of one Settle.
 pub const MOST_SETTLED: u16 = 1000;
+
+/// The greatest number of a Status.
+pub const MOST_STATUS: u16 = 255;
 
 /// An event of a replay. It prints as its line.
 #[derive(Clone, Debug, PartialEq, Eq, Drop)]
@@ -34,6 +40,8 @@ pub enum Event {
     AdminClose(End, u8, Proto),
     /// `timeout E L P`: the restart timer of a protocol on the link fires at that end.
     Timeout(End, u8, Proto),
+    /// `timeout E L bap`: the timer of the request that the link's bundle waits on fires at that end.
+    BapTimeout(End, u8),
     /// `deliver E L`: that end takes the front frame of its incoming queue of the link.
     Deliver(End, u8),
     /// `lose E L K`: the frame of place K from the front, 1 to 1,024, of that end's incoming queue is lost.
@@ -42,6 +50,14 @@ pub enum Event {
     Settle(u16),
     /// `reboot E`: all queues are emptied, that end begins anew, and the other end's lines go down.
     Reboot(End),
+    /// `call E L`: that end asks its peer to let it call one link more for the bundle of the link (RFC 2125).
+    Call(End, u8),
+    /// `callback E L`: that end asks its peer to call it on one link more for the bundle of the link.
+    Callback(End, u8),
+    /// `drop E L`: that end asks its peer to let it drop the link from its bundle.
+    Drop(End, u8),
+    /// `status E L N`: that end tells its peer how a call for the bundle of the link went, by a number from 0 to 255.
+    Status(End, u8, u8),
     /// `show`: the states are reported.
     Show,
 }
@@ -56,10 +72,15 @@ impl fmt::Display for Event {
             Event::AdminOpen(end, link, protocol) => write!(f, "open {end} {link} {protocol}"),
             Event::AdminClose(end, link, protocol) => write!(f, "close {end} {link} {protocol}"),
             Event::Timeout(end, link, protocol) => write!(f, "timeout {end} {link} {protocol}"),
+            Event::BapTimeout(end, link) => write!(f, "timeout {end} {link} bap"),
             Event::Deliver(end, link) => write!(f, "deliver {end} {link}"),
             Event::Lose(end, link, place) => write!(f, "lose {end} {link} {place}"),
             Event::Settle(count) => write!(f, "settle {count}"),
             Event::Reboot(end) => write!(f, "reboot {end}"),
+            Event::Call(end, link) => write!(f, "call {end} {link}"),
+            Event::Callback(end, link) => write!(f, "callback {end} {link}"),
+            Event::Drop(end, link) => write!(f, "drop {end} {link}"),
+            Event::Status(end, link, status) => write!(f, "status {end} {link} {status}"),
             Event::Show => write!(f, "show"),
         }
     }
@@ -125,15 +146,41 @@ fn read_protocol(fields: &Fields<'_>, links: u8) -> Result<(End, u8, Proto), Lin
     Ok((end, link, protocol))
 }
 
-/// Reads `E L K`.
+/// Reads `E L` and the name of a timer.
 #[tactic(auto, unfolding(crate::specs::Event::placed))]
-fn read_lose(fields: &Fields<'_>, links: u8) -> Result<(End, u8, u16), LineWhy>
-    ensures value { result ≡ placed links (last_number 1 MOST_PLACE) fields.now }
-    ensures within { IfOk result (λ x. IsLink links x.1 × ((1 ≤ x.2) × (x.2 ≤ MOST_PLACE))) }
+fn read_timer(fields: &Fields<'_>, links: u8) -> Result<(End, u8, Timer), LineWhy>
+    ensures value { result ≡ placed links last_timer fields.now }
+    ensures within { IfOk result (λ x. IsLink links x.1) }
 {
     let (end, link, fields) = place(fields, links)?;
-    let place = last_number(&fields, 1, MOST_PLACE)?;
-    Ok((end, link, place))
+    let timer = last_timer(&fields)?;
+    Ok((end, link, timer))
+}
+
+/// That a timer fires.
+fn timeout(end: End, link: u8, timer: Timer) -> Event
+    ensures { result ≡ timeout end link timer }
+{
+    match timer {
+        Timer::Restart(protocol) => Event::Timeout(end, link, protocol),
+        Timer::Bap => Event::BapTimeout(end, link),
+    }
+}
+
+/// Reads `E L` and a number within these bounds.
+#[tactic(auto, unfolding(crate::specs::Event::placed))]
+fn read_number(
+    fields: &Fields<'_>,
+    links: u8,
+    least: u16,
+    most: u16,
+) -> Result<(End, u8, u16), LineWhy>
+    ensures value { result ≡ placed links (last_number least most) fields.now }
+    ensures within { IfOk result (λ x. IsLink links x.1 × ((least ≤ x.2) × (x.2 ≤ most))) }
+{
+    let (end, link, fields) = place(fields, links)?;
+    let number = last_number(&fields, least, most)?;
+    Ok((end, link, number))
 }
 
 /// Reads a number within these bounds, and no more.
@@ -178,13 +225,13 @@ fn read_fields(word: &[u8], fields: &Fields<'_>, links: u8) -> Result<Event, Lin
         let (end, link, protocol) = read_protocol(fields, links)?;
         Ok(Event::AdminClose(end, link, protocol))
     } else if word == b"timeout".as_slice() {
-        let (end, link, protocol) = read_protocol(fields, links)?;
-        Ok(Event::Timeout(end, link, protocol))
+        let (end, link, timer) = read_timer(fields, links)?;
+        Ok(timeout(end, link, timer))
     } else if word == b"deliver".as_slice() {
         let (end, link) = read_link(fields, links)?;
         Ok(Event::Deliver(end, link))
     } else if word == b"lose".as_slice() {
-        let (end, link, place) = read_lose(fields, links)?;
+        let (end, link, place) = read_number(fields, links, 1, MOST_PLACE)?;
         Ok(Event::Lose(end, link, place))
     } else if word == b"settle".as_slice() {
         Ok(Event::Settle(last_number(fields, 1, MOST_SETTLED)?))
@@ -193,6 +240,28 @@ fn read_fields(word: &[u8], fields: &Fields<'_>, links: u8) -> Result<Event, Lin
     } else if word == b"show".as_slice() {
         no_more(fields)?;
         Ok(Event::Show)
+    } else {
+        read_bap(word, fields, links)
+    }
+}
+
+/// The event of a line of BAP with this first field, and these behind it.
+fn read_bap(word: &[u8], fields: &Fields<'_>, links: u8) -> Result<Event, LineWhy>
+    ensures value { result ≡ read_by (bap_rows links) word.now fields.now }
+    ensures within { IfOk result (IsWithin links) }
+{
+    if word == b"call".as_slice() {
+        let (end, link) = read_link(fields, links)?;
+        Ok(Event::Call(end, link))
+    } else if word == b"callback".as_slice() {
+        let (end, link) = read_link(fields, links)?;
+        Ok(Event::Callback(end, link))
+    } else if word == b"drop".as_slice() {
+        let (end, link) = read_link(fields, links)?;
+        Ok(Event::Drop(end, link))
+    } else if word == b"status".as_slice() {
+        let (end, link, status) = read_number(fields, links, 0, MOST_STATUS)?;
+        Ok(Event::Status(end, link, status as u8))
     } else {
         Err(LineWhy::Event)
     }

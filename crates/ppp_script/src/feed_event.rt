@@ -1,12 +1,13 @@
 //! The events of a feed, and the lines that read as them.
 
 ghost use Rattle.std.specs.Prelude.{◌≡◌, ◌-◌, ◌^◌, ◌<◌, IfOk, IfErr, All, Ok, Some, length};
-ghost use Rattle.ppp_script.specs.FeedEvent.{IsWithin, feed_text, linked, plain_rows, bytes_row, feed_of, feed_form};
+ghost use Rattle.ppp_script.specs.FeedEvent.{IsWithin, feed_text, linked, timeout, plain_rows, bytes_row, feed_of, feed_form};
 ghost use Rattle.ppp_script.specs.Field.{no_more, last_field, last_protocol, IsLink};
 ghost use Rattle.ppp_script.specs.Results.{Gives};
 ghost use Rattle.ppp_script.specs.Row.{read_by};
 ghost use Rattle.ppp_script.specs.Script.{events_of};
 ghost use Rattle.ppp_script.specs.ScriptFault.{IsRefusal};
+ghost use Rattle.ppp_script.specs.Timer.{last_timer};
 
 use crate::field::{last_field, last_protocol, next_field, next_link, no_more};
 use crate::line::Line;
@@ -14,6 +15,7 @@ use crate::line_why::LineWhy;
 use crate::octets::Octets;
 use crate::script::{Script, read_script};
 use crate::script_fault::ScriptFault;
+use crate::timer::{Timer, last_timer};
 use ppp_packet::Proto;
 use ppp_text::Fields;
 use std::alloc::{AllocError, Global};
@@ -32,6 +34,8 @@ pub enum FeedEvent {
     AdminClose(u8, Proto),
     /// `timeout L P`: the restart timer of a protocol on the link fires.
     Timeout(u8, Proto),
+    /// `timeout L bap`: the timer of the request that the link's bundle waits on fires.
+    BapTimeout(u8),
     /// `bytes L HEX`: octets come on the link, 1 to 65,536.
     Bytes(u8, Octets),
 }
@@ -46,6 +50,7 @@ impl fmt::Display for FeedEvent {
             FeedEvent::AdminOpen(link, protocol) => write!(f, "open {link} {protocol}"),
             FeedEvent::AdminClose(link, protocol) => write!(f, "close {link} {protocol}"),
             FeedEvent::Timeout(link, protocol) => write!(f, "timeout {link} {protocol}"),
+            FeedEvent::BapTimeout(link) => write!(f, "timeout {link} bap"),
             FeedEvent::Bytes(link, octets) => write!(f, "bytes {link} {octets}"),
         }
     }
@@ -117,8 +122,8 @@ fn read_fields(word: &[u8], fields: &Fields<'_>, links: u8) -> Result<FeedEvent,
         let (link, protocol) = read_protocol(fields, links)?;
         Ok(FeedEvent::AdminClose(link, protocol))
     } else if word == b"timeout".as_slice() {
-        let (link, protocol) = read_protocol(fields, links)?;
-        Ok(FeedEvent::Timeout(link, protocol))
+        let (link, timer) = read_timer(fields, links)?;
+        Ok(timeout(link, timer))
     } else {
         Err(LineWhy::Event)
     }
@@ -144,6 +149,27 @@ fn read_protocol(fields: &Fields<'_>, links: u8) -> Result<(u8, Proto), LineWhy>
     let (link, fields) = next_link(fields, links)?;
     let protocol = last_protocol(&fields)?;
     Ok((link, protocol))
+}
+
+/// Reads `L` and the name of a timer.
+#[tactic(auto, unfolding(crate::specs::FeedEvent::linked))]
+fn read_timer(fields: &Fields<'_>, links: u8) -> Result<(u8, Timer), LineWhy>
+    ensures value { result ≡ linked links last_timer fields.now }
+    ensures within { IfOk result (λ x. IsLink links x.0) }
+{
+    let (link, fields) = next_link(fields, links)?;
+    let timer = last_timer(&fields)?;
+    Ok((link, timer))
+}
+
+/// That a timer fires.
+fn timeout(link: u8, timer: Timer) -> FeedEvent
+    ensures { result ≡ timeout link timer }
+{
+    match timer {
+        Timer::Restart(protocol) => FeedEvent::Timeout(link, protocol),
+        Timer::Bap => FeedEvent::BapTimeout(link),
+    }
 }
 
 /// Reads `L HEX`.

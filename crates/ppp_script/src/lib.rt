@@ -17,9 +17,10 @@ mod line_why;
 mod octets;
 mod script;
 mod script_fault;
+mod timer;
 
 pub use end::End;
-pub use event::{Event, MOST_PLACE, MOST_SETTLED, steps_of};
+pub use event::{Event, MOST_PLACE, MOST_SETTLED, MOST_STATUS, steps_of};
 pub use feed_event::{FeedEvent, read_feed};
 pub use field::MOST_LINKS;
 pub use law::read_again;

@@ -1,23 +1,14 @@
-pub mod BundleLemmas
-pub mod CapLemmas
-pub mod ControlLemmas
-pub mod FrameLemmas
-pub mod FramedLemmas
-pub mod LinksLemmas
-pub mod ListLemmas
-pub mod MovesLemmas
+pub mod BareLemmas
+pub mod BringLemmas
+pub mod CountLemmas
+pub mod KeptLemmas
+pub mod LiveLemmas
+pub mod MaskLemmas
+pub mod MoveLemmas
 pub mod OneStationLemmas
-pub mod OrdersLemmas
-pub mod PhaseLemmas
-pub mod RanLemmas
-pub mod RunLemmas
-pub mod SignalLemmas
-mod StationLemmas
-mod StationOutLemmas
-pub mod StationPhaseLemmas
-pub mod SteadyLemmas
-mod StepsLemmas
-pub mod TurnLemmas
-pub mod UpLemmas
-pub mod WalkLemmas
-pub mod WovenLemmas
+pub mod PassLemmas
+pub mod ShippedLemmas
+pub mod SoundLemmas
+pub mod StationLemmas
+pub mod ViewLemmas
+pub mod WaitLemmas

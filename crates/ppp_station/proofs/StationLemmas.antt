@@ -1,120 +1,112 @@
--- The links of a station, one after another.
-use Rattle.std.proofs.Common.{◌≡◌, ℕ, zero, suc, ◌+◌, ◌-◌, ◌<◌, ◌≤◌, List, [], ◌∷◌, ◌++◌, take, drop, length, map, set, get_or, Some, slice_get, refl, sym, ap, ◌∙◌, arith}
-use Rattle.std.specs.List.{AllByRecursion}
-use Rattle.std.proofs.lemmas.List.{map-append}
-use Rattle.std.proofs.lemmas.Option.{slice_get-get_or}
-use Rattle.ppp_conf.specs.EndConfig.{EndSettings}
-use Rattle.ppp_link.specs.LinkOut.{Entry as Told}
-use Rattle.ppp_link.specs.LinkSettings.{settings_of}
-use Rattle.ppp_link.specs.LinkTables.{tables_seen}
-use Rattle.ppp_link.specs.Proto.{nets}
-use Rattle.ppp_packet.specs.declared.proto.Proto.TheVariants.{Bacp}
-use Rattle.ppp_packet.specs.declared.proto.Proto.{Proto}
-use Rattle.ppp_auto.specs.declared.auto_event.AutoEvent.TheVariants.{AdminOpen}
-use Rattle.ppp_link.specs.Link.{Fed, Link, event_did, link_begun, link_with}
+-- What the steps of a station come to.
+use Rattle.std.proofs.Common.{◌≡◌, ◌∙◌, ◌<◌, ℕ, Bool, List, [], ◌∷◌, ◌++◌, length, sym, subst, ap}
+use Rattle.std.specs.Prelude.{Result, Option, None, Some, IfSome, ⊤}
+use Rattle.ppp_bap.specs.Ask.{asks as bap_asks}
+use Rattle.ppp_bap.specs.BapOut.{Entry as Brought}
+use Rattle.ppp_bap.specs.Requests.{Requests}
+use Rattle.ppp_bap.specs.Step.{Step, stays, takes}
+use Rattle.ppp_bap.specs.Wish.{request_for, told}
+use Rattle.ppp_bap.specs.declared.ask_refused.AskRefused.{AskRefused}
+use Rattle.ppp_bap.specs.declared.bap_ask.BapAsk.{BapAsk}
+use Rattle.ppp_bap.specs.declared.bundle_view.BundleView.{BundleView}
+use Rattle.ppp_bundle.specs.BundleTable.{IsBundleOf}
 use Rattle.ppp_bundle.specs.Bundles.{Bundles}
-use Rattle.ppp_station.specs.Station.{Station, Stepped, all_settings, held_in, link_ready, on_link, opens_all, settings_in, stepped_by, IsReady}
-use Rattle.ppp_station.specs.StationOut.{Entry, Out}
-use Rattle.ppp_station.specs.Steps.{Happening, fed_seen, link_does, so_far, with_link, works}
-use Rattle.ppp_station.proofs.ListLemmas.{drop-get}
+use Rattle.ppp_bundle.specs.declared.limits.Limits.{Limits}
+use Rattle.ppp_bundle.specs.declared.limits.TheConstants.{MOST_BUNDLES}
+use Rattle.ppp_trunk.specs.StationOut.{Asked, Entry, Out}
+use Rattle.ppp_trunk.specs.Steps.{Takes}
+use Rattle.ppp_trunk.specs.Trunk.{IsOfLink, Trunk, limits_of, on_link}
+use Rattle.ppp_trunk.proofs.MovesLemmas.{counts}
+use Rattle.ppp_station.specs.Brought.{AreBrought}
+use Rattle.ppp_station.specs.Heard.{IsHeard}
+use Rattle.ppp_station.specs.Station.{IsStation, station_at}
+use Rattle.ppp_station.specs.Steps.{Done, and_tells, asks, asks_in, bap_packet, brings, links_do, so_far}
+use Rattle.ppp_station.specs.View.{view_of}
+use Rattle.ppp_station.specs.declared.bap_terms.BapTerms.{BapTerms}
+use Rattle.ppp_station.proofs.BringLemmas.{takes-brought}
+use Rattle.ppp_station.proofs.LiveLemmas.{heard-live}
+use Rattle.ppp_station.proofs.SoundLemmas.{Sound, sound-links}
 
--- one protocol is to be opened, and the rest is left
-pub opens-next : (ps : List Proto) (i : ℕ) (p : Proto) (before now whole : Link) → slice_get ps i ≡ Some p →
-    now ≡ link_with before (event_did before p AdminOpen 0) → opens_all (drop i ps) before ≡ whole → opens_all (drop (suc i) ps) now ≡ whole
-unfolding opens_all
-opens-next ps i p before now whole is done left =
-    let step : opens_all (p ∷ drop (suc i) ps) before ≡ whole = rw (drop-get ps i p is) at left in
-    rw done step
+-- ---- what is always so, of a station and of what was done so far
 
--- what one link keeps, and the rest is left
-pub held-next : (ks : List Link) (i : ℕ) (k : Link) (held one whole : ℕ) → slice_get ks i ≡ Some k → one ≡ length k.deframer.standing.plain →
-    held + held_in (drop i ks) ≡ whole → held + one + held_in (drop (suc i) ks) ≡ whole
-held-next ks i k held one whole is keeps left =
-    let step : held + held_in (k ∷ drop (suc i) ks) ≡ whole = rw (drop-get ks i k is) at left in
-    omega (arith, step, keeps)
+pub sound-from : (t : Trunk) (q : Requests) (terms : BapTerms) (es : List Entry) → IsStation (station_at t q terms) → Sound (so_far t q es)
+sound-from t q terms es h = record { trunk = h.trunk; requests = h.requests; joined = record { each = h.joined } }
 
-opens-tables : (ps : List Proto) (k : Link) → (opens_all ps k).tables ≡ k.tables
-unfolding opens_all
-opens-tables [] k = refl
-opens-tables (p ∷ ps) k = opens-tables ps (link_with k (event_did k p AdminOpen 0))
+pub station-from : (terms : BapTerms) (done : Done) → Sound done → IsStation (station_at done.trunk done.requests terms)
+station-from terms done h = record { trunk = h.trunk; requests = h.requests; joined = h.joined.each }
 
--- a link that is begun and opened
-pub tables_from : (ps : List Proto) (before k : Link) → k ≡ opens_all ps before → k.tables ≡ before.tables
-tables_from ps before k is = ap (λ (k : Link). k.tables) is ∙ opens-tables ps before
+-- ---- octets came, and the links did their step
 
-pub ready_from : (before k : Link) → before ≡ link_begun before.tables → k ≡ opens_all (nets ++ Bacp ∷ []) before → k ≡ link_ready k.tables
-ready_from before k begun is =
-    is ∙ (ap (opens_all (nets ++ Bacp ∷ [])) begun ∙ ap link_ready (sym (tables_from (nets ++ Bacp ∷ []) before k is)))
+pub heard-link : (l word : ℕ) (octets : List ℕ) (from now : Done) → now ≡ links_do (Takes octets) l word from → IsOfLink (length from.trunk.links) l → IsOfLink (length now.trunk.links) l
+heard-link l word octets from now is of =
+    subst (λ n. IsOfLink n l) (sym (counts (Takes octets) l word from.trunk) ∙ sym (ap (λ (d : Done). length d.trunk.links) is)) of
 
--- the settings of one link more
-pub settings-snoc : (n number : ℕ) (s : EndSettings) → all_settings (suc n) number s ≡ all_settings n number s ++ settings_of (number + n) s ∷ []
-settings-snoc zero number s = ap (λ l. settings_of l s ∷ []) (omega arith)
-settings-snoc (suc n) number s =
-    ap (λ more. settings_of number s ∷ more) (settings-snoc n (number + 1) s ∙ ap (λ l. all_settings n (number + 1) s ++ settings_of l s ∷ []) (omega arith))
+pub heard-station : (l word : ℕ) (octets : List ℕ) (terms after : BapTerms) (t : Trunk) (q : Requests) (es : List Entry) (now : Done) → now ≡ links_do (Takes octets) l word (so_far t q es) →
+    IsOfLink (length t.links) l → IsStation (station_at t q terms) → IsStation (station_at now.trunk now.requests after)
+heard-station l word octets terms after t q es now is of h =
+    station-from after now (subst Sound (sym is) (sound-links (Takes octets) l word (so_far t q es) of h.trunk h.requests))
 
-pub ready-snoc : (ks : List Link) (k : Link) → AllByRecursion IsReady ks → IsReady k → AllByRecursion IsReady (ks ++ k ∷ [])
-ready-snoc [] k all one = (one, tt)
-ready-snoc (x ∷ xs) k all one = (all.0, ready-snoc xs k all.1 one)
+pub heard-heard : (l word : ℕ) (octets : List ℕ) (terms : BapTerms) (t : Trunk) (q : Requests) (es : List Entry) (told : Out) (now : Done) → now ≡ links_do (Takes octets) l word (so_far t q es) →
+    told ≡ (on_link (Takes octets) l t word).out → IsOfLink (length t.links) l → IsStation (station_at t q terms) → IsHeard l (bap_packet told.entries) now.trunk
+heard-heard l word octets terms t q es told now is out of h =
+    subst (λ (d : Done). IsHeard l (bap_packet told.entries) d.trunk) (sym is)
+    (subst (λ (o : Out). IsHeard l (bap_packet o.entries) (on_link (Takes octets) l t word).trunk) (sym out) (heard-live l word octets t of h.trunk))
 
--- a link of a list is set
-set-at : (ks : List Link) (l : ℕ) (k : Link) → l < length ks → with_link (suc l) k ks ≡ set ks l k
-set-at [] l k h = absurd (omega arith)
-set-at (x ∷ xs) zero k h = refl
-set-at (x ∷ xs) (suc l) k h = ap (λ ks. x ∷ ks) (set-at xs l k (omega arith))
+-- ---- a packet of BAP was taken
 
-pub set-is : (ks : List Link) (l : ℕ) (k : Link) → 1 ≤ l → l ≤ length ks → with_link l k ks ≡ set ks (l - 1) k
-set-is ks l k low high =
-    let e : l ≡ suc (l - 1) = omega arith in
-    ap (λ n. with_link n k ks) e ∙ set-at ks (l - 1) k (omega arith)
+pub received : (allowed : Bool) (b word : ℕ) (terms : BapTerms) (v : BundleView) (octets : List ℕ) (t : Trunk) (q new : Requests) (es : List Brought) (out : List Entry) →
+    b < MOST_BUNDLES → IsStation (station_at t q terms) → v ≡ view_of b terms t → new ≡ (takes allowed v octets q).requests → es ≡ (takes allowed v octets q).out →
+    AreBrought b word es (so_far t new out)
+received allowed b word terms v octets t q new es out lt h seen requests sent =
+    let step : BundleView → Step = λ v. takes allowed v octets q in
+    let requests_is : new ≡ (step (view_of b terms t)).requests = requests ∙ ap (λ v. (step v).requests) seen in
+    let sent_is : es ≡ (step (view_of b terms t)).out = sent ∙ ap (λ v. (step v).out) seen in
+    subst (λ q. AreBrought b word es (so_far t q out)) (sym requests_is)
+    (subst (λ es. AreBrought b word es (so_far t (step (view_of b terms t)).requests out)) (sym sent_is)
+    (takes-brought allowed b word terms octets (so_far t q out) lt (sound-from t q terms out h)))
 
--- the first links are changed, and one more
-pub mapped-next : (f : Link → Link) (ks : List Link) (i : ℕ) (k : Link) → slice_get ks i ≡ Some k →
-    set (map f (take i ks) ++ drop i ks) i (f k) ≡ map f (take (suc i) ks) ++ drop (suc i) ks
-mapped-next f [] i k is = absurd (cc)
-mapped-next f (x ∷ xs) zero k is = let same : x ≡ k = cc in rw same refl
-mapped-next f (x ∷ xs) (suc i) k is = ap (λ ks. f x ∷ ks) (mapped-next f xs i k is)
+-- ---- one asked
 
-pub mapped-get : (f : Link → Link) (ks : List Link) (i : ℕ) → slice_get (map f (take i ks) ++ drop i ks) i ≡ slice_get ks i
-mapped-get f [] zero = refl
-mapped-get f [] (suc i) = refl
-mapped-get f (x ∷ xs) zero = refl
-mapped-get f (x ∷ xs) (suc i) = mapped-get f xs i
+pub asked-done : (b word : ℕ) (what : BapAsk) (v : BundleView) (done mid : Done) (q : Requests) (es : List Brought) (a : Result ⊤ AskRefused) →
+    q ≡ (bap_asks what v done.requests).requests → es ≡ (bap_asks what v done.requests).out → mid ≡ brings b word es (record done { requests = q }) →
+    a ≡ told (request_for what v done.requests) → and_tells mid (Asked a) ≡ asks_in b what v word done
+asked-done b word what v done mid q es a requests sent is answer =
+    let step = bap_asks what v done.requests in
+    let then : mid ≡ brings b word step.out (record done { requests = step.requests }) =
+    is ∙ ap (λ q. brings b word es (record done { requests = q })) requests ∙ ap (λ es. brings b word es (record done { requests = step.requests })) sent in
+    ap (λ (d : Done). and_tells d (Asked a)) then ∙ ap (λ a. and_tells (brings b word step.out (record done { requests = step.requests })) (Asked a)) answer
 
--- ---- what the code does, link by link
+pub refused-done : (b word : ℕ) (what : BapAsk) (v : BundleView) (done : Done) (a : Result ⊤ AskRefused) → bap_asks what v done.requests ≡ stays done.requests →
+    a ≡ told (request_for what v done.requests) → and_tells done (Asked a) ≡ asks_in b what v word done
+refused-done b word what v done a nothing answer =
+    ap (λ a. and_tells done (Asked a)) answer
+    ∙ sym (ap (λ (step : Step). and_tells (brings b word step.out (record done { requests = step.requests })) (Asked (told (request_for what v done.requests)))) nothing)
 
-pub settings-put : (ks : List Link) (k : Link) (i : ℕ) (s : EndSettings) → settings_in ks ≡ all_settings i 1 s → tables_seen k.tables ≡ settings_of (i + 1) s →
-    settings_in (ks ++ k ∷ []) ≡ all_settings (suc i) 1 s
-settings-put ks k i s all one =
-    let at : settings_of (i + 1) s ≡ settings_of (1 + i) s = ap (λ l. settings_of l s) (omega arith) in
-    map-append (λ (k : Link). tables_seen k.tables) ks (k ∷ [])
-    ∙ ap (λ xs. xs ++ tables_seen k.tables ∷ []) all
-    ∙ ap (λ x. all_settings i 1 s ++ x ∷ []) (one ∙ at)
-    ∙ sym (settings-snoc i 1 s)
+-- a bundle that a link is joined in is one of eight
+pub bundle-below : (o : Option ℕ) (b n : ℕ) (t : Bundles) → o ≡ Some b → t.limits ≡ limits_of n → IfSome o (IsBundleOf t) → b < MOST_BUNDLES
+bundle-below None b n t is limits within = absurd (cc)
+bundle-below (Some c) b n t is limits within =
+    let same : c ≡ b = cc in
+    subst (λ c. c < MOST_BUNDLES) same (subst (λ m. c < m) (ap (λ (n : Limits). n.bundles) limits) within)
 
-pub reset-next : (f : Link → Link) (ks now : List Link) (i : ℕ) (d k : Link) → i < length now → now ≡ map f (take i ks) ++ drop i ks → k ≡ f (get_or now i d) →
-    set now i k ≡ map f (take (suc i) ks) ++ drop (suc i) ks
-reset-next f ks now i d k less is new =
-    let there : slice_get ks i ≡ Some (get_or now i d) = sym (mapped-get f ks i) ∙ ap (λ xs. slice_get xs i) (sym is) ∙ slice_get-get_or now i d less in
-    ap (λ xs. set xs i k) is ∙ ap (set (map f (take i ks) ++ drop i ks) i) new ∙ mapped-next f ks i (get_or now i d) there
+asks-some : (o : Option ℕ) (b word : ℕ) (what : BapAsk) (terms : BapTerms) (v : BundleView) (t : Trunk) (q : Requests) (out : List Entry) (x : Done) → o ≡ Some b → v ≡ view_of b terms t → out ≡ [] →
+    x ≡ asks_in b what v word (so_far t q out) → x ≡ asks terms o what word (so_far t q [])
+asks-some o b word what terms v t q out x is seen empty done =
+    done ∙ ap (λ v. asks_in b what v word (so_far t q out)) seen
+    ∙ ap (λ out. asks_in b what (view_of b terms t) word (so_far t q out)) empty
+    ∙ ap (λ o. asks terms o what word (so_far t q [])) (sym is)
 
--- a link's own step, what follows from it, and the station after that
-pub record IsStepped (what : Happening) (l word : ℕ) (old new : Station) (told : Out) : Type 0 where
-  pub station : new ≡ (on_link what l old word).station
-  pub out : told ≡ (on_link what l old word).out
+pub asked-whole : (b word : ℕ) (what : BapAsk) (terms : BapTerms) (o : Option ℕ) (v : BundleView) (t now : Trunk) (q first last : Requests) (es : List Brought) (out behind told_last : List Entry) (a : Result ⊤ AskRefused) →
+    o ≡ Some b → v ≡ view_of b terms t → out ≡ [] → first ≡ (bap_asks what v q).requests → es ≡ (bap_asks what v q).out →
+    so_far now last behind ≡ brings b word es (so_far t first out) → a ≡ told (request_for what v q) → told_last ≡ behind ++ Asked a ∷ [] →
+    so_far now last told_last ≡ asks terms o what word (so_far t q [])
+asked-whole b word what terms o v t now q first last es out behind told_last a is seen empty requests sent done answer out_is =
+    asks-some o b word what terms v t q out _ is seen empty
+    (ap (so_far now last) out_is ∙ asked-done b word what v (so_far t q out) (so_far now last behind) first es a requests sent done answer)
 
-pub happen-is : (what : Happening) (l at word : ℕ) (st : Station) (d old begun : Link) (links : List Link) (b : Bundles) (told : List Told) (used : ℕ) (begins entries : List Entry) →
-    at ≡ l - 1 → 1 ≤ l → l ≤ length st.links → old ≡ get_or st.links at d → fed_seen begun told used ≡ link_does what old word →
-    begins ≡ [] → so_far links b entries ≡ works l word told (so_far (set st.links at begun) st.bundles begins) →
-    IsStepped what l word st (record { links = links; bundles = b }) (record { entries = entries; used = used })
-happen-is what l at word st d old begun links b told used begins entries at_is low high old_is fed none worked =
-    let there : slice_get st.links (l - 1) ≡ Some old = ap (slice_get st.links) (sym at_is) ∙ slice_get-get_or st.links at d (omega (arith, at_is)) ∙ ap (λ (k : Link). Some k) (sym old_is) in
-    let set_at : set st.links at begun ≡ with_link l begun st.links = ap (λ n. set st.links n begun) at_is ∙ sym (set-is st.links l begun low high) in
-    let is : so_far links b entries ≡ works l word (link_does what old word).out (so_far (with_link l (link_does what old word).link st.links) st.bundles []) =
-    worked ∙ ap (λ es. works l word told (so_far (set st.links at begun) st.bundles es)) none
-    ∙ ap (λ ks. works l word told (so_far ks st.bundles [])) set_at
-    ∙ ap (λ (f : Fed). works l word f.out (so_far (with_link l f.link st.links) st.bundles [])) fed in
-    let step = ap (stepped_by what l st word) (sym there) in
-    record {
-      station = (λ i. record { links = (is i).links; bundles = (is i).bundles }) ∙ ap (λ (s : Stepped). s.station) step;
-      out = (λ i. record { entries = (is i).out; used = (fed i).used }) ∙ ap (λ (s : Stepped). s.out) step;
-    }
+pub refused-whole : (b word : ℕ) (what : BapAsk) (terms : BapTerms) (o : Option ℕ) (v : BundleView) (t : Trunk) (q last : Requests) (out told_last : List Entry) (a : Result ⊤ AskRefused) →
+    o ≡ Some b → v ≡ view_of b terms t → out ≡ [] → bap_asks what v q ≡ stays q → last ≡ q → a ≡ told (request_for what v q) → told_last ≡ out ++ Asked a ∷ [] →
+    so_far t last told_last ≡ asks terms o what word (so_far t q [])
+refused-whole b word what terms o v t q last out told_last a is seen empty nothing same answer out_is =
+    asks-some o b word what terms v t q out _ is seen empty
+    (ap (so_far t last) out_is ∙ ap (λ q. so_far t q (out ++ Asked a ∷ [])) same ∙ refused-done b word what v (so_far t q out) a nothing answer)

@@ -1,8 +1,9 @@
-pub mod Caps
-pub mod Control
+pub mod BapTerms
+pub mod Brought
+pub mod Heard
 pub mod Moves
-pub mod Orders
-pub mod Phases
+pub mod Shipped
 pub mod Station
-pub mod StationOut
 pub mod Steps
+pub mod View
+pub mod Waits

@@ -1,87 +1,115 @@
--- One whole end: its links and bundles, and what an event makes of them.
-use Rattle.std.specs.Prelude.{◌≡◌, ℕ, zero, suc, ◌+◌, ◌-◌, ◌≤◌, List, [], ◌∷◌, ◌++◌, length, map, Option, Some, None, slice_get}
-use Rattle.std.specs.List.{AllByRecursion}
+-- One whole end, and what an event makes of it.
+use Rattle.std.specs.Prelude.{◌≡◌, ◌<◌, ℕ, Bool, true, List, [], Option, Some, None, ⊤}
 use Rattle.ppp_conf.specs.EndConfig.{EndSettings}
-use Rattle.ppp_packet.specs.declared.proto.Proto.{Proto}
-use Rattle.ppp_packet.specs.declared.proto.Proto.TheVariants.{Bacp}
-use Rattle.ppp_auto.specs.declared.auto_event.AutoEvent.TheVariants.{AdminOpen}
-use Rattle.ppp_bundle.specs.Bundles.{Bundles, bundles_begun}
-use Rattle.ppp_bundle.specs.declared.limits.Limits.{Limits}
-use Rattle.ppp_bundle.specs.declared.limits.TheConstants.{MOST_BUNDLES, MOST_LINKS, MOST_PEERS}
-use Rattle.ppp_link.specs.Link.{Fed, Link, event_did, link_begun, link_with}
-use Rattle.ppp_link.specs.LinkSettings.{LinkSettings, settings_of}
-use Rattle.ppp_link.specs.LinkTables.{LinkTables, tables_seen}
-use Rattle.ppp_link.specs.Proto.{nets}
-use Rattle.ppp_station.specs.StationOut.{Out}
-use Rattle.ppp_station.specs.Steps.{Done, Happening, LineUp, LineDown, Opens, Closes, TimesOut, Takes, link_does, with_link, works, IsUsed}
+use Rattle.ppp_bap.specs.Answer.{IfAsked}
+use Rattle.ppp_bap.specs.Requests.{AreRequests, Requests, asked_of, requests_begun}
+use Rattle.ppp_bap.specs.declared.bap_ask.BapAsk.{BapAsk}
+use Rattle.ppp_bap.specs.declared.bap_ask.BapAsk.TheVariants as ask
+use Rattle.ppp_bap.specs.declared.call_ask.CallAsk.{CallAsk}
+use Rattle.ppp_bundle.specs.Bundles.{Bundles, bundle_at}
+use Rattle.ppp_bundle.specs.declared.limits.TheConstants.{MOST_BUNDLES}
+use Rattle.ppp_trunk.specs.Phases.{IsTrunk}
+use Rattle.ppp_trunk.specs.Trunk.{BeginsBy as LinksBeginBy, IsOfLink, Trunk, on_link, trunk_anew}
+use Rattle.ppp_trunk.specs.StationOut.{Out}
+use Rattle.ppp_trunk.specs.Steps.{Happening, IsUsed, LineUp, LineDown, Opens, Closes, TimesOut, Takes}
+use Rattle.ppp_station.specs.BapTerms.{terms_of}
+use Rattle.ppp_station.specs.Waits.{keeps_link}
+use Rattle.ppp_station.specs.Steps.{Done, asked_for, asks, bap_packet, bundle_timed, links_do, takes_bap, tells, times}
+use Rattle.ppp_station.specs.declared.bap_terms.BapTerms.{BapTerms}
 use Rattle.ppp_station.specs.declared.station_event.StationEvent.{StationEvent}
 use Rattle.ppp_station.specs.declared.station_event.StationEvent.TheVariants as event
 
--- protocols that are to be opened, in turn
-unfoldable pub opens_all : List Proto → Link → Link
-opens_all [] k = k
-opens_all (p ∷ ps) k = opens_all ps (link_with k (event_did k p AdminOpen 0))
-
--- a link as a station begins with it: each control protocol that is configured above LCP is to be opened
-abbrev pub link_ready : LinkTables → Link
-link_ready t = opens_all (nets ++ Bacp ∷ []) (link_begun t)
-
--- the settings of links in turn, from that number on
-abbrev pub all_settings : ℕ → ℕ → EndSettings → List LinkSettings
-all_settings zero number s = []
-all_settings (suc more) number s = settings_of number s ∷ all_settings more (number + 1) s
-
--- a station as it begins, of those links
-abbrev pub IsReady : Link → Type 0
-IsReady k = k ≡ link_ready k.tables
-
 pub record Station : Type 0 where
-  pub links : List Link
-  pub bundles : Bundles
+  pub trunk : Trunk
+  pub requests : Requests
+  pub terms : BapTerms
 
--- the bundles of so many links, at most 8, of at most 256 peers that are remembered
-abbrev pub limits_of : ℕ → Limits
-limits_of links = record { links = links; bundles = MOST_BUNDLES; peers = MOST_PEERS }
+-- the same with the policy that decides over its peers' calls
+pub record Whole (F : Type 0) : Type 0 where
+  pub policy : F
+  pub station : Station
 
--- a station, and what an event sends and tells
 pub record Stepped : Type 0 where
   pub station : Station
   pub out : Out
 
--- the station after the entries of a link's own step were worked off
-abbrev pub done_of : Done → ℕ → Stepped
-done_of done used = record {
-  station = record { links = done.links; bundles = done.bundles };
+abbrev pub station_at : Trunk → Requests → BapTerms → Station
+station_at t q terms = record { trunk = t; requests = q; terms = terms }
+
+abbrev pub begins : Station → Done
+begins st = record { trunk = st.trunk; requests = st.requests; out = [] }
+
+abbrev pub stepped : BapTerms → Done → ℕ → Stepped
+stepped terms done used = record {
+  station = record { trunk = done.trunk; requests = done.requests; terms = terms };
   out = record { entries = done.out; used = used };
 }
 
-abbrev pub worked : ℕ → Fed → Station → ℕ → Done
-worked l fed st word = works l word fed.out (record { links = with_link l fed.link st.links; bundles = st.bundles; out = [] })
+-- the links do a step
+abbrev pub moves : Happening → ℕ → Station → ℕ → Stepped
+moves what l st word = stepped st.terms (links_do what l word (begins st)) 0
 
-abbrev pub stepped_by : Happening → ℕ → Station → ℕ → Option Link → Stepped
-stepped_by what l st word None = record { station = st; out = record { entries = []; used = 0 } }
-stepped_by what l st word (Some k) = let fed = link_does what k word in done_of (worked l fed st word) fed.used
+-- octets come on a link: the links do a step, and then a packet of BAP is taken that came by it
+abbrev pub hears : Bool → ℕ → List ℕ → Station → ℕ → Stepped
+hears allowed l octets st word =
+    let t = on_link (Takes octets) l st.trunk word in
+    stepped st.terms (takes_bap allowed st.terms l word (bap_packet t.out.entries) (links_do (Takes octets) l word (begins st))) t.out.used
 
--- something happens to a link
-abbrev pub on_link : Happening → ℕ → Station → ℕ → Stepped
-on_link what l st word = stepped_by what l st word (slice_get st.links (l - 1))
+-- what the policy is asked for it, if it is
+abbrev pub asked_for_octets : ℕ → List ℕ → Station → ℕ → Option CallAsk
+asked_for_octets l octets st word =
+    asked_for st.terms l (bap_packet (on_link (Takes octets) l st.trunk word).out.entries) (links_do (Takes octets) l word (begins st))
+
+-- the peer of a link's bundle is asked, or told how a call went
+abbrev pub asks_peer : ℕ → BapAsk → Station → ℕ → Stepped
+asks_peer l what st word = stepped st.terms (asks st.terms (bundle_at l st.trunk.bundles) what word (begins st)) 0
+
+abbrev pub tells_peer : ℕ → ℕ → Station → ℕ → Stepped
+tells_peer l status st word = stepped st.terms (tells st.terms (bundle_at l st.trunk.bundles) status word (begins st)) 0
+
+-- the timer of BAP fires at a bundle's control link
+abbrev pub tries_again : ℕ → Station → ℕ → Stepped
+tries_again l st word = stepped st.terms (times (bundle_timed l st.trunk) word (begins st)) 0
 
 -- the station as it began
 abbrev pub station_anew : Station → Station
-station_anew st = record { links = map (λ k. link_ready k.tables) st.links; bundles = bundles_begun st.bundles.limits }
+station_anew st = record { trunk = trunk_anew st.trunk; requests = requests_begun; terms = st.terms }
 
-abbrev pub station_does : StationEvent → Station → ℕ → Stepped
-station_does (event.Up l) st word = on_link LineUp l st word
-station_does (event.Down l) st word = on_link LineDown l st word
-station_does (event.AdminOpen l p) st word = on_link (Opens p) l st word
-station_does (event.AdminClose l p) st word = on_link (Closes p) l st word
-station_does (event.Timeout l p) st word = on_link (TimesOut p) l st word
-station_does (event.Bytes l octets) st word = on_link (Takes octets.now) l st word
-station_does event.Reset st word = record { station = station_anew st; out = record { entries = []; used = 0 } }
+abbrev pub station_does : Bool → StationEvent → Station → ℕ → Stepped
+station_does allowed (event.Up l) st word = moves LineUp l st word
+station_does allowed (event.Down l) st word = moves LineDown l st word
+station_does allowed (event.AdminOpen l p) st word = moves (Opens p) l st word
+station_does allowed (event.AdminClose l p) st word = moves (Closes p) l st word
+station_does allowed (event.Timeout l p) st word = moves (TimesOut p) l st word
+station_does allowed (event.BapTimeout l) st word = tries_again l st word
+station_does allowed (event.Bytes l octets) st word = hears allowed l octets.now st word
+station_does allowed (event.Ask l what) st word = asks_peer l what st word
+station_does allowed (event.Status l status) st word = tells_peer l status st word
+station_does allowed event.Reset st word = record { station = station_anew st; out = record { entries = []; used = 0 } }
 
--- the event is of one of that many links
-abbrev pub IsOfLink : ℕ → ℕ → Type 0
-IsOfLink links l = (1 ≤ l) × (l ≤ links)
+-- what the policy is asked in it, if it is
+abbrev pub policy_asked : StationEvent → Station → ℕ → Option CallAsk
+policy_asked (event.Bytes l octets) st word = asked_for_octets l octets.now st word
+policy_asked ev st word = None
+
+-- a packet of BAP is taken that came on a link, as it follows from what the policy answers, where it is asked
+pub record TakesBap (says : CallAsk → Bool → Type 0) (terms : BapTerms) (l word : ℕ) (packet : Option (List ℕ)) (old new : Done) : Type 0 where
+  pub allowed : Bool
+  pub said : IfAsked says (asked_for terms l packet old) allowed
+  pub done : new ≡ takes_bap allowed terms l word packet old
+
+-- the event is the station's step for what the policy answers, where it is asked
+pub record Steps (says : CallAsk → Bool → Type 0) (ev : StationEvent) (word : ℕ) (old new : Station) (out : Out) : Type 0 where
+  pub allowed : Bool
+  pub said : IfAsked says (policy_asked ev old word) allowed
+  pub station : new ≡ (station_does allowed ev old word).station
+  pub sent : out ≡ (station_does allowed ev old word).out
+
+-- the event is of one of that many links, and so is a link that is to be dropped
+abbrev pub IsOfAsk : BapAsk → ℕ → Type 0
+IsOfAsk ask.Call links = ⊤
+IsOfAsk ask.Callback links = ⊤
+IsOfAsk (ask.Drop l) links = IsOfLink links l
 
 abbrev pub IsOfLinks : StationEvent → ℕ → Type 0
 IsOfLinks (event.Up l) links = IsOfLink links l
@@ -89,30 +117,30 @@ IsOfLinks (event.Down l) links = IsOfLink links l
 IsOfLinks (event.AdminOpen l p) links = IsOfLink links l
 IsOfLinks (event.AdminClose l p) links = IsOfLink links l
 IsOfLinks (event.Timeout l p) links = IsOfLink links l
+IsOfLinks (event.BapTimeout l) links = IsOfLink links l
 IsOfLinks (event.Bytes l octets) links = IsOfLink links l
-IsOfLinks event.Reset links = Unit {0}
+IsOfLinks (event.Ask l what) links = IsOfLink links l × IsOfAsk what links
+IsOfLinks (event.Status l status) links = IsOfLink links l
+IsOfLinks event.Reset links = ⊤
 
 -- what an event used of the octets that it brought, and 0 where it brought none
 abbrev pub IsUsedOf : StationEvent → ℕ → Type 0
 IsUsedOf (event.Bytes l octets) used = IsUsed (Takes octets.now) used
 IsUsedOf ev used = used ≡ 0
 
--- what its links negotiate, and the octets that they keep of unfinished frames
-abbrev pub settings_in : List Link → List LinkSettings
-settings_in links = map (λ k. tables_seen k.tables) links
-
-abbrev pub held_in : List Link → ℕ
-held_in [] = 0
-held_in (k ∷ ks) = length k.deframer.standing.plain + held_in ks
-
--- a station as it begins
-pub record IsBegun (st : Station) : Type 0 where
-  pub some : 1 ≤ length st.links
-  pub most : length st.links ≤ MOST_LINKS
-  pub ready : AllByRecursion IsReady st.links
-  pub bundles : st.bundles ≡ bundles_begun (limits_of (length st.links))
-
--- and by an end's settings
+-- a station as it begins by an end's settings: nothing waits
 pub record BeginsBy (s : EndSettings) (st : Station) : Type 0 where
-  pub begun : IsBegun st
-  pub settings : settings_in st.links ≡ all_settings s.links 1 s
+  pub links : LinksBeginBy s st.trunk
+  pub requests : st.requests ≡ requests_begun
+  pub terms : st.terms ≡ terms_of s
+
+-- a link that is to be dropped is joined, while the request waits
+abbrev pub IsJoinedAsk : ℕ → Option BapAsk → Bundles → Type 0
+IsJoinedAsk b None t = ⊤
+IsJoinedAsk b (Some what) t = keeps_link b what t ≡ true
+
+-- what always holds of a station
+pub record IsStation (st : Station) : Type 0 where
+  pub trunk : IsTrunk st.trunk
+  pub requests : AreRequests st.requests
+  pub joined : (b : ℕ) → b < MOST_BUNDLES → IsJoinedAsk b (asked_of b st.requests) st.trunk.bundles

@@ -1,178 +1,147 @@
--- What a station does for the entries of a link's step, one after the other: what a signal causes comes in its place, before
--- the next entry (RFC 1661 section 3).
-use Rattle.std.specs.Prelude.{◌≡◌, ◌<◌, ◌≤◌, ℕ, zero, suc, ◌-◌, Bool, false, true, ◌==◌, ◌||◌, if◌then◌else◌, List, [], ◌∷◌, ◌++◌, length, Option, Some, None, slice_get}
-use Rattle.std.specs.List.{flat_map}
-use Rattle.ppp_auto.specs.Auto.{Auto, is_opened}
-use Rattle.ppp_packet.specs.declared.proto.Proto.{Proto}
-use Rattle.ppp_packet.specs.declared.proto.Proto.TheVariants.{Lcp, Ip, Ipv6, Mpls}
-use Rattle.ppp_auto.specs.declared.auto_event.AutoEvent.TheVariants.{Down, AdminOpen, AdminClose, Timeout, Up}
-use Rattle.ppp_bundle.specs.Bundles.{Bundles, bundle_at, control_of}
-use Rattle.ppp_link.specs.Automata.{auto_at}
-use Rattle.ppp_link.specs.Link.{Fed, Link, event_did, fed_with, link_up, link_with, run_did}
-use Rattle.ppp_link.specs.LinkOut.{Entry as Told}
-use Rattle.ppp_link.specs.LinkOut as told
-use Rattle.ppp_station.specs.Control.{Moved, Run, comes, goes, key_in}
-use Rattle.ppp_station.specs.StationOut.{Entry, Push, Got, Hang}
-use Rattle.ppp_station.specs.declared.happening.Happening.{Happening as Kept}
-use Rattle.ppp_station.specs.declared.happening.Happening.TheVariants as kept
+-- What a station does: a step of its links, the waits that end by it, and what BAP makes of it.
+use Rattle.std.specs.Prelude.{ℕ, ◌-◌, Bool, false, ◌==◌, if◌then◌else◌, List, [], ◌∷◌, ◌++◌, Option, Some, None, Err, slice_get}
+use Rattle.std.specs.List.{find, flat_map}
+use Rattle.std.specs.Option.{option_map}
+use Rattle.ppp_packet.specs.declared.proto.Proto.TheVariants.{Lcp}
+use Rattle.ppp_bap.specs.Ask.{asks as bap_asks}
+use Rattle.ppp_bap.specs.Wish.{request_for, told}
+use Rattle.ppp_bap.specs.BapOut.{Entry as Brought}
+use Rattle.ppp_bap.specs.BapOut as brought
+use Rattle.ppp_bap.specs.BapPacket.{packet_of}
+use Rattle.ppp_bap.specs.Requests.{Requests, wait_of}
+use Rattle.ppp_bap.specs.Step.{asked_by, takes, tells_status, times_out}
+use Rattle.ppp_bap.specs.declared.ask_refused.AskRefused.TheVariants.{NotOpen}
+use Rattle.ppp_bap.specs.declared.bap_ask.BapAsk.{BapAsk}
+use Rattle.ppp_bap.specs.declared.bundle_view.BundleView.{BundleView}
+use Rattle.ppp_bap.specs.declared.call_ask.CallAsk.{CallAsk}
+use Rattle.ppp_bundle.specs.Bundles.{bundle_at, control_of, marked_at}
+use Rattle.ppp_trunk.specs.Control.{is_same_link}
+use Rattle.ppp_trunk.specs.Trunk.{Stepped, Trunk, on_link}
+use Rattle.ppp_trunk.specs.StationOut.{Entry, Push, Got, Hang, Dial, Asked}
+use Rattle.ppp_trunk.specs.Steps.{Happening, Closes, control_for, frame_on}
+use Rattle.ppp_trunk.specs.declared.steps.TheConstants.{BAP}
+use Rattle.ppp_station.specs.View.{view_of}
+use Rattle.ppp_station.specs.Waits.{settled}
+use Rattle.ppp_station.specs.declared.bap_terms.BapTerms.{BapTerms}
 
--- what was done so far at a station: its links and bundles as they are now, and the entries, in order
+-- what was done so far in an event: the links as they are now, the requests that wait, and the entries, in order
 pub record Done : Type 0 where
-  pub links : List Link
-  pub bundles : Bundles
+  pub trunk : Trunk
+  pub requests : Requests
   pub out : List Entry
+
+abbrev pub so_far : Trunk → Requests → List Entry → Done
+so_far t q out = record { trunk = t; requests = q; out = out }
 
 abbrev pub and_tells : Done → Entry → Done
 and_tells done entry = record done { out = done.out ++ entry ∷ [] }
 
--- a list of links with that one in the place of a number, from 1 on
-abbrev pub with_link : ℕ → Link → List Link → List Link
-with_link l k [] = []
-with_link zero k (x ∷ xs) = x ∷ xs
-with_link (suc zero) k (x ∷ xs) = k ∷ xs
-with_link (suc (suc l)) k (x ∷ xs) = x ∷ with_link (suc l) k xs
+-- ---- a step of the links
 
--- ---- datagrams
+-- what it tells is passed on, but for a packet of BAP
+abbrev pub is_bap : Entry → Bool
+is_bap (Got class protocol octets) = protocol == BAP
+is_bap (Push link octets) = false
+is_bap (Hang link) = false
+is_bap (Dial link) = false
+is_bap (Asked answer) = false
 
--- The network control protocol that has to be Opened before a datagram is handed up: IPv4 0021, IPv6 0057 and MPLS unicast
--- 0281 (RFC 3032 section 4.3). Others are dropped.
-abbrev pub opener_of : ℕ → Option Proto
-opener_of protocol =
-    if protocol == 0x0021 then Some Ip
-    else if protocol == 0x0057 then Some Ipv6
-    else if protocol == 0x0281 then Some Mpls
-    else None
+abbrev pub passed : Entry → List Entry
+passed e = if is_bap e then [] else e ∷ []
 
-abbrev pub opened_if : Option Auto → Bool
-opened_if None = false
-opened_if (Some a) = is_opened a.state
+abbrev pub passed_on : List Entry → List Entry
+passed_on es = flat_map passed es
 
-abbrev pub is_opened_at : Option Link → Option Proto → Bool
-is_opened_at None p = false
-is_opened_at (Some k) None = false
-is_opened_at (Some k) (Some p) = opened_if (auto_at k.automata p)
+-- and that is taken
+abbrev pub octets_got : Entry → List ℕ
+octets_got (Got class protocol octets) = octets
+octets_got entry = []
 
--- whether it is Opened on the link of that number
-abbrev pub is_opened_on : List Link → ℕ → Option Proto → Bool
-is_opened_on links l p = is_opened_at (slice_get links (l - 1)) p
+abbrev pub bap_in : Entry → Option (List ℕ)
+bap_in e = if is_bap e then Some (octets_got e) else None
 
--- the control link of a link's bundle, if it is in one
-abbrev pub control_by : Option ℕ → Bundles → Option ℕ
-control_by None b = None
-control_by (Some i) b = control_of i b
+abbrev pub bap_packet : List Entry → Option (List ℕ)
+bap_packet es = option_map octets_got (find is_bap es)
 
-abbrev pub control_for : ℕ → Bundles → Option ℕ
-control_for l b = control_by (bundle_at l b) b
+-- the links did a step: the waits end that end by it, and what it tells is passed on
+abbrev pub follows : Stepped → Done → Done
+follows t done = record {
+  trunk = t.trunk;
+  requests = settled done.trunk.bundles t.trunk done.requests;
+  out = done.out ++ passed_on t.out.entries;
+}
 
-abbrev pub is_opened_control : List Link → Option ℕ → Option Proto → Bool
-is_opened_control links None p = false
-is_opened_control links (Some c) p = is_opened_on links c p
+-- the links do a step, and what follows
+abbrev pub links_do : Happening → ℕ → ℕ → Done → Done
+links_do what l word done = follows (on_link what l done.trunk word) done
 
--- ---- entries of a link
+-- ---- what BAP brings
 
--- an entry that causes nothing: a frame goes out on that link
-abbrev pub plain : ℕ → Told → List Entry
-plain l (told.Push octets) = Push l octets ∷ []
-plain l entry = []
+-- a packet goes out on a link
+abbrev pub goes_out : Option ℕ → List ℕ → Done → Done
+goes_out None octets done = done
+goes_out (Some l) octets done = record done { out = done.out ++ frame_on (slice_get done.trunk.links (l - 1)) l BAP octets }
 
-abbrev pub all_plain : ℕ → List Told → List Entry
-all_plain l es = flat_map (plain l) es
+abbrev pub marks : ℕ → Done → Done
+marks l done = record done { trunk = record done.trunk { bundles = marked_at l done.trunk.bundles } }
 
--- control protocols go Up or Down on a link, and what they send goes out there
-abbrev pub runs_at : Run → ℕ → Option Link → Done → Done
-runs_at r word None done = done
-runs_at r word (Some k) done =
-    let did = run_did k r.on r.bacp word in
-    record { links = with_link r.link (link_with k did) done.links; bundles = done.bundles; out = done.out ++ all_plain r.link did.out }
+-- a packet goes out on the bundle's control link; a link is marked; LCP of a link closes; a link is dialled
+abbrev pub brings_one : ℕ → ℕ → Brought → Done → Done
+brings_one b word (brought.Send octets) done = goes_out (control_of b done.trunk.bundles) octets done
+brings_one b word (brought.Mark l) done = marks l done
+brings_one b word (brought.CloseLink l) done = links_do (Closes Lcp) l word done
+brings_one b word (brought.Dial l) done = and_tells done (Dial l)
 
-unfoldable pub runs : ℕ → Run → Done → Done
-runs word r done = runs_at r word (slice_get done.links (r.link - 1)) done
+abbrev pub brings : ℕ → ℕ → List Brought → Done → Done
+brings b word [] done = done
+brings b word (e ∷ es) done = brings b word es (brings_one b word e done)
 
-unfoldable pub runs_all : ℕ → List Run → Done → Done
-runs_all word [] done = done
-runs_all word (r ∷ rs) done = runs_all word rs (runs word r done)
+-- ---- a packet of BAP
 
-abbrev pub follows : ℕ → Moved → Done → Done
-follows word m done = runs_all word m.runs (record done { bundles = m.bundles })
+-- it is taken by the bundle of the link that it came on
+abbrev pub takes_in : Bool → BapTerms → Option ℕ → ℕ → List ℕ → Done → Done
+takes_in allowed terms None word octets done = done
+takes_in allowed terms (Some b) word octets done =
+    let step = takes allowed (view_of b terms done.trunk) octets done.requests in
+    brings b word step.out (record done { requests = step.requests })
 
--- LCP came to be Opened on a link
-abbrev pub comes_up : ℕ → ℕ → Option Link → Done → Done
-comes_up l word None done = done
-comes_up l word (Some k) done = follows word (comes l (key_in k.automata.lcp) done.bundles) done
+abbrev pub takes_bap : Bool → BapTerms → ℕ → ℕ → Option (List ℕ) → Done → Done
+takes_bap allowed terms l word None done = done
+takes_bap allowed terms l word (Some octets) done = takes_in allowed terms (bundle_at l done.trunk.bundles) word octets done
 
--- A datagram is handed up where its control protocol is Opened on the link that it came on, or on the control link.
-abbrev pub hands_up : ℕ → ℕ → List ℕ → Done → Done
-hands_up l protocol octets done =
-    if is_opened_on done.links l (opener_of protocol) || is_opened_control done.links (control_for l done.bundles) (opener_of protocol)
-    then and_tells done (Got None protocol octets) else done
+-- what the policy is asked for it, if it is
+abbrev pub asked_in : BapTerms → Option ℕ → List ℕ → Done → Option CallAsk
+asked_in terms None octets done = None
+asked_in terms (Some b) octets done = asked_by (view_of b terms done.trunk) done.requests (packet_of octets)
 
-unfoldable pub works_one : ℕ → ℕ → Told → Done → Done
-works_one l word (told.Push octets) done = and_tells done (Push l octets)
-works_one l word told.LcpUp done = comes_up l word (slice_get done.links (l - 1)) done
-works_one l word told.LcpDown done = follows word (goes l done.bundles) done
-works_one l word told.Finished done = and_tells done (Hang l)
-works_one l word (told.NetUp p) done = done
-works_one l word (told.NetDown p) done = done
-works_one l word (told.Payload protocol octets) done = hands_up l protocol octets done
+abbrev pub asked_for : BapTerms → ℕ → Option (List ℕ) → Done → Option CallAsk
+asked_for terms l None done = None
+asked_for terms l (Some octets) done = asked_in terms (bundle_at l done.trunk.bundles) octets done
 
-unfoldable pub works : ℕ → ℕ → List Told → Done → Done
-works l word [] done = done
-works l word (e ∷ es) done = works l word es (works_one l word e done)
+-- ---- what an end asks and tells
 
--- ---- what happens to a link
+-- the request goes out, or it is refused; a link that is in no bundle has no BACP
+abbrev pub asks_in : ℕ → BapAsk → BundleView → ℕ → Done → Done
+asks_in b what v word done =
+    let step = bap_asks what v done.requests in
+    and_tells (brings b word step.out (record done { requests = step.requests })) (Asked (told (request_for what v done.requests)))
 
-pub data Happening : Type 0 where
-  LineUp : Happening
-  LineDown : Happening
-  Opens : (proto : Proto) → Happening
-  Closes : (proto : Proto) → Happening
-  TimesOut : (proto : Proto) → Happening
-  Takes : (octets : List ℕ) → Happening
+abbrev pub asks : BapTerms → Option ℕ → BapAsk → ℕ → Done → Done
+asks terms None what word done = and_tells done (Asked (Err NotOpen))
+asks terms (Some b) what word done = asks_in b what (view_of b terms done.trunk) word done
 
-abbrev pub happening_seen : Kept → Happening
-happening_seen kept.LineUp = LineUp
-happening_seen kept.LineDown = LineDown
-happening_seen (kept.Opens p) = Opens p
-happening_seen (kept.Closes p) = Closes p
-happening_seen (kept.TimesOut p) = TimesOut p
-happening_seen (kept.Takes octets) = Takes octets.now
+abbrev pub tells : BapTerms → Option ℕ → ℕ → ℕ → Done → Done
+tells terms None status word done = done
+tells terms (Some b) status word done =
+    let step = tells_status status (view_of b terms done.trunk) done.requests in
+    brings b word step.out (record done { requests = step.requests })
 
--- what the code has after it
-abbrev pub fed_seen : Link → List Told → ℕ → Fed
-fed_seen k out used = record { link = k; out = out; used = used }
+-- the timer of a bundle stands at its control link
+abbrev pub bundle_timed : ℕ → Trunk → Option ℕ
+bundle_timed l t = if is_same_link (control_for l t.bundles) (Some l) then bundle_at l t.bundles else None
 
-abbrev pub so_far : List Link → Bundles → List Entry → Done
-so_far links b out = record { links = links; bundles = b; out = out }
-
--- the link's own step
-abbrev pub link_does : Happening → Link → ℕ → Fed
-link_does LineUp k word = record { link = link_up k word; out = (event_did k Lcp Up word).out; used = 0 }
-link_does LineDown k word = let did = event_did k Lcp Down word in record { link = link_with k did; out = did.out; used = 0 }
-link_does (Opens p) k word = let did = event_did k p AdminOpen word in record { link = link_with k did; out = did.out; used = 0 }
-link_does (Closes p) k word = let did = event_did k p AdminClose word in record { link = link_with k did; out = did.out; used = 0 }
-link_does (TimesOut p) k word = let did = event_did k p Timeout word in record { link = link_with k did; out = did.out; used = 0 }
-link_does (Takes octets) k word = fed_with k octets word
-
--- Of octets that come one is used at least, where there is one, and no more than came.
-abbrev pub IsUsed : Happening → ℕ → Type 0
-IsUsed (Takes octets) used = (used ≤ length octets) × (0 < length octets → 0 < used)
-IsUsed what used = used ≡ 0
-
--- ---- which signals of LCP may come
-
--- LCP tells that it came to be Opened only where it told before that it left Opened, or where it wasn't.
-abbrev pub TellsInTurn : Bool → List Told → Type 0
-TellsInTurn opened [] = Unit {0}
-TellsInTurn opened (told.LcpUp ∷ es) = (opened ≡ false) × TellsInTurn true es
-TellsInTurn opened (told.LcpDown ∷ es) = TellsInTurn false es
-TellsInTurn opened (told.Push octets ∷ es) = TellsInTurn opened es
-TellsInTurn opened (told.Finished ∷ es) = TellsInTurn opened es
-TellsInTurn opened (told.NetUp p ∷ es) = TellsInTurn opened es
-TellsInTurn opened (told.NetDown p ∷ es) = TellsInTurn opened es
-TellsInTurn opened (told.Payload protocol octets ∷ es) = TellsInTurn opened es
-
--- while it isn't Opened, the link is in no bundle
-pub record InTurn (l : ℕ) (b : Bundles) (es : List Told) : Type 0 where
-  pub opened : Bool
-  pub tells : TellsInTurn opened es
-  pub out : opened ≡ false → bundle_at l b ≡ None
+abbrev pub times : Option ℕ → ℕ → Done → Done
+times None word done = done
+times (Some b) word done =
+    let step = times_out b (wait_of b done.requests) done.requests in
+    brings b word step.out (record done { requests = step.requests })

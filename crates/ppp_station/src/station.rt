@@ -1,245 +1,129 @@
 //! A station.
 
-ghost use Rattle.std.specs.Prelude.{◌≡◌, ◌+◌, ◌*◌, ◌-◌, ◌≤◌, ◌++◌, ◌∷◌, [], length, map, IfOk, OnOk, Some, slice_get};
+ghost use Rattle.std.specs.Prelude.{◌≡◌, ◌+◌, ◌*◌, ◌-◌, ◌≤◌, ◌<◌, [], length, IfOk, Some, slice_get};
+ghost use Rattle.ppp_bap.specs.Requests.{asked_of};
+ghost use Rattle.ppp_bundle.specs.declared.limits.TheConstants.{MOST_BUNDLES, MOST_LINKS};
 ghost use Rattle.ppp_conf.specs.EndConfig.{end_seen};
-ghost use Rattle.ppp_link.specs.LinkSettings.{settings_of};
-ghost use Rattle.ppp_link.specs.LinkTables.{tables_seen};
-ghost use Rattle.std.specs.List.{AllByRecursion};
-ghost use Rattle.ppp_station.specs.Moves.{AreLinked};
-ghost use Rattle.ppp_station.specs.Station.{all_settings, held_in, limits_of, link_ready, on_link, opens_all, settings_in, station_anew, station_does, IsBegun, IsOfLink, IsOfLinks, IsReady, IsUsedOf};
-ghost use Rattle.ppp_station.specs.StationOut.{all_octets, AreShort};
-ghost use Rattle.ppp_station.specs.Steps.{happening_seen, IsUsed};
 ghost use Rattle.ppp_link.specs.declared.link.TheConstants.{MOST_FRAME};
-ghost use Rattle.ppp_bundle.specs.declared.limits.TheConstants.{MOST_LINKS};
-ghost use Rattle.ppp_station.specs.declared.station.TheConstants.{CONTROLS};
-ghost use Rattle.ppp_station.specs.declared.station_out.TheConstants.{MOST_ENTRIES, MOST_OCTETS};
+ghost use Rattle.ppp_trunk.specs.Moves.{AreLinked};
+ghost use Rattle.ppp_trunk.specs.StationOut.{all_octets, AreShort};
+ghost use Rattle.ppp_trunk.specs.Trunk.{held_in, limits_of, IsOfLink};
+ghost use Rattle.ppp_trunk.specs.declared.station_out.TheConstants.{MOST_ENTRIES, MOST_OCTETS};
+ghost use Rattle.ppp_station.specs.Station.{BeginsBy, IsOfLinks, IsUsedOf, Steps};
 
-use crate::happening::{Happening, happen};
+use crate::bap_terms::BapTerms;
+use crate::hub::Hub;
 use crate::station_event::StationEvent;
-use crate::station_out::StationOut;
-use crate::steps::work;
-use ppp_bundle::{BundleTable, Limits, MOST_BUNDLES, MOST_LINKS, MOST_PEERS};
+use ppp_bap::{Bap, BapAsk, BapOut, Policy};
+use ppp_bundle::BundleTable;
 use ppp_conf::EndConfig;
-use ppp_link::{Link, LinkOut};
+use ppp_link::Link;
 use ppp_memory::Memory;
-use ppp_packet::Proto;
+use ppp_trunk::{StationOut, Trunk};
 use std::alloc::Global;
 use std::marker::Model;
 
-/// The control protocols above LCP, in order.
-const CONTROLS: [Proto; 5] = [Proto::Ip, Proto::Ipv6, Proto::Osi, Proto::Mpls, Proto::Bacp];
-
-/// One whole end.
+/// One whole end: its links in bundles, and BAP with its policy.
 #[derive(Drop)]
-pub struct Station {
-    links: Vec<Link>,
-    bundles: BundleTable,
-    told: LinkOut,
-    nets: LinkOut,
+pub struct Station<F: Policy> {
+    hub: Hub<F>,
+    brought: BapOut,
 }
 
-impl Model for Station {
-    ghost use Rattle.ppp_station.specs.Phases.{IsStation};
+impl<F: Policy> Model for Station<F> {
     ghost use Rattle.ppp_station.specs.Station as spec;
 
-    ghost Value = { spec.Station };
+    ghost Value = { spec.Whole F };
 
-    ghost view = { λ s. record { links = s.links.items; bundles = s.bundles } };
+    ghost view = { λ s. record { policy = s.hub.bap.policy; station = spec.station_at s.hub.trunk s.hub.bap.requests s.hub.terms } };
 
-    ghost invariant = { λ s. IsStation (record { links = s.links.items; bundles = s.bundles }) };
+    ghost invariant = { λ s. spec.IsStation (spec.station_at s.hub.trunk s.hub.bap.requests s.hub.terms) };
 }
 
-impl Station {
-    /// A station of these settings. Every control protocol that is configured above LCP is to be opened, so it is in
-    /// Starting; LCP is in Initial, no link is joined, and no peer is remembered. It takes the memory for all that it holds
-    /// later.
-    pub fn new(alloc: Global, config: &EndConfig) -> Result<Station, Memory>
-        ensures begun { IfOk result (λ s. IsBegun s) }
-        ensures settings { IfOk result (λ s. settings_in s.links ≡ all_settings config.now.links 1 (end_seen config.now)) }
+impl<F: Policy + Drop> Station<F> {
+    /// A station of these settings, with that policy, where nothing waits.
+    pub fn new(alloc: Global, config: &EndConfig, policy: F) -> Result<Station<F>, Memory>
+        requires { F.may policy }
+        ensures policy { IfOk result (λ s. s.policy ≡ policy) }
+        ensures begins { IfOk result (λ s. BeginsBy (end_seen config.now) s.station) }
     {
-        let mut told = LinkOut::new(alloc)?;
-        let links = ready_links(alloc, config, &mut told)?;
-        let bundles = BundleTable::new(alloc, limits_of(config.links))?;
-        let nets = LinkOut::new(alloc)?;
+        let trunk = Trunk::new(alloc, config)?;
+        let told = StationOut::new(alloc)?;
         Ok(Station {
-            links,
-            bundles,
-            told,
-            nets,
+            hub: Hub {
+                trunk,
+                bap: Bap::new(policy),
+                terms: BapTerms::of(config),
+                told,
+            },
+            brought: BapOut::new(),
         })
     }
+}
 
+impl<F: Policy> Station<F> {
     /// Does an event, whose link is one of the station's, and puts what it sends and tells into `out`. A word is what a
     /// table draws from where a new list is asked for. It takes no memory.
     pub fn event(&mut self, ev: StationEvent<'_>, word: u64, out: &mut StationOut)
-        requires { IsOfLinks ev (length self.old.links) }
-        ensures station { self.new ≡ (station_does ev.entry self.old word).station }
-        ensures out { out.new ≡ (station_does ev.entry self.old word).out }
+        requires { IsOfLinks ev (length self.old.station.trunk.links) }
+        ensures does { Steps (F.says self.old.policy) ev.entry word self.old.station self.new.station out.new }
+        ensures policy { self.new.policy ≡ self.old.policy }
         ensures short { AreShort out.new.entries }
         ensures used { IsUsedOf ev.entry out.new.used }
         ensures few { length out.new.entries ≤ MOST_ENTRIES }
         ensures room { all_octets out.new.entries ≤ MOST_OCTETS }
-        ensures linked { AreLinked (length self.new.links) out.new.entries }
+        ensures linked { AreLinked (length self.new.station.trunk.links) out.new.entries }
+        ensures count { length self.new.station.trunk.links ≡ length self.old.station.trunk.links }
     {
-        match ev {
-            StationEvent::Up(link) => self.happens(link, Happening::LineUp, word, out),
-            StationEvent::Down(link) => self.happens(link, Happening::LineDown, word, out),
-            StationEvent::AdminOpen(link, proto) => {
-                self.happens(link, Happening::Opens(proto), word, out);
-            }
-            StationEvent::AdminClose(link, proto) => {
-                self.happens(link, Happening::Closes(proto), word, out);
-            }
-            StationEvent::Timeout(link, proto) => {
-                self.happens(link, Happening::TimesOut(proto), word, out);
-            }
-            StationEvent::Bytes(link, octets) => {
-                self.happens(link, Happening::Takes(octets), word, out);
-            }
-            StationEvent::Reset => {
-                out.clear();
-                self.reset();
-            }
-        }
+        out.clear();
+        let used = self.hub.step(ev, word, &mut self.brought, out);
+        out.set_used(used);
+    }
+
+    /// Its links and their bundles.
+    pub fn trunk(&self) -> &Trunk
+        ensures { result.now ≡ self.now.station.trunk }
+    {
+        &self.hub.trunk
     }
 
     /// How many links there are.
     pub fn links(&self) -> u8
-        ensures count { result ≡ length self.now.links }
+        ensures count { result ≡ length self.now.station.trunk.links }
         ensures most { result ≤ MOST_LINKS }
     {
-        self.links.len() as u8
+        self.hub.trunk.links()
     }
 
     /// The link of that number, from 1 on.
     pub fn link(&self, link: u8) -> &Link
-        requires { IsOfLink (length self.now.links) link }
-        ensures { slice_get self.now.links (link - 1) ≡ Some result.now }
+        requires { IsOfLink (length self.now.station.trunk.links) link }
+        ensures { slice_get self.now.station.trunk.links (link - 1) ≡ Some result.now }
     {
-        &self.links[usize::from(link) - 1]
+        self.hub.trunk.link(link)
     }
 
     /// Its bundles: which links are joined in which (RFC 1990).
     pub fn bundles(&self) -> &BundleTable
-        ensures { result.now ≡ self.now.bundles }
+        ensures value { result.now ≡ self.now.station.trunk.bundles }
+        ensures limits { result.now.limits ≡ limits_of (length self.now.station.trunk.links) }
     {
-        &self.bundles
+        self.hub.trunk.bundles()
+    }
+
+    /// What the request of a bundle asks that waits, 0 to 7.
+    pub fn waiting(&self, bundle: u8) -> Option<BapAsk>
+        requires { bundle < MOST_BUNDLES }
+        ensures { result ≡ asked_of bundle self.now.station.requests }
+    {
+        self.hub.bap.waiting(bundle)
     }
 
     /// The octets that are kept of unfinished frames, escapes undone.
     pub fn held(&self) -> usize
-        ensures value { result ≡ held_in self.now.links }
-        ensures limit { result ≤ length self.now.links * MOST_FRAME }
+        ensures value { result ≡ held_in self.now.station.trunk.links }
+        ensures limit { result ≤ length self.now.station.trunk.links * MOST_FRAME }
     {
-        let mut held = 0;
-        for i in 0..self.links.len() {
-            held += self.links[i].held();
-        }
-        held
-    }
-
-    /// Something happens to a link, and what follows from it.
-    fn happens(&mut self, number: u8, what: Happening<'_>, word: u64, out: &mut StationOut)
-        requires { IsOfLink (length self.old.links) number }
-        ensures station { self.new ≡ (on_link (happening_seen what.entry) number self.old word).station }
-        ensures out { out.new ≡ (on_link (happening_seen what.entry) number self.old word).out }
-        ensures short { AreShort out.new.entries }
-        ensures used { IsUsed (happening_seen what.entry) out.new.used }
-        ensures few { length out.new.entries ≤ MOST_ENTRIES }
-        ensures room { all_octets out.new.entries ≤ MOST_OCTETS }
-        ensures linked { AreLinked (length self.new.links) out.new.entries }
-    {
-        out.clear();
-        let link = &mut self.links[usize::from(number) - 1];
-        let used = happen(link, what, word, &mut self.told);
-        work(
-            &mut self.links,
-            &mut self.bundles,
-            number,
-            word,
-            &self.told,
-            &mut self.nets,
-            out,
-        );
-        out.set_used(used);
-    }
-
-    /// Is as a new station.
-    fn reset(&mut self)
-        ensures { self.new ≡ station_anew self.old }
-    {
-        reset_links(&mut self.links, &mut self.told);
-        self.bundles.reset();
-    }
-}
-
-/// The links of an end of these settings, as a station begins with them.
-fn ready_links(alloc: Global, config: &EndConfig, told: &mut LinkOut) -> Result<Vec<Link>, Memory>
-    ensures count { IfOk result (λ ks. length ks.items ≡ config.now.links) }
-    ensures ready { IfOk result (λ ks. AllByRecursion IsReady ks.items) }
-    ensures settings { IfOk result (λ ks. settings_in ks.items ≡ all_settings config.now.links 1 (end_seen config.now)) }
-{
-    let mut links = Vec::new(alloc);
-    for i in 0..config.links {
-        let link = ready_link(alloc, config, i + 1, told)?;
-        put(&mut links, link)?;
-    }
-    Ok(links)
-}
-
-/// Each link is as a station begins with it.
-fn reset_links(links: &mut Vec<Link>, told: &mut LinkOut)
-    ensures { links.new.items ≡ map (λ k. link_ready k.tables) links.old.items }
-{
-    for i in 0..links.len() {
-        let link = &mut links[i];
-        link.reset();
-        open_all(link, &CONTROLS, told);
-    }
-}
-
-/// How much the bundles of so many links hold: 8 bundles, and 256 peers that are remembered.
-fn limits_of(links: u8) -> Limits
-    ensures { result ≡ limits_of links }
-{
-    Limits {
-        links,
-        bundles: MOST_BUNDLES,
-        peers: MOST_PEERS,
-    }
-}
-
-/// Puts a link behind others.
-fn put(links: &mut Vec<Link>, link: Link) -> Result<(), Memory>
-    ensures { OnOk result (links.new.items ≡ links.old.items ++ link ∷ []) }
-{
-    links.push(link).map_err(|_| Memory)
-}
-
-/// A link of an end of these settings, as a station begins with it.
-#[tactic(auto, using(crate::proofs::StationLemmas::ready_from, crate::proofs::StationLemmas::tables_from))]
-fn ready_link(
-    alloc: Global,
-    config: &EndConfig,
-    number: u8,
-    told: &mut LinkOut,
-) -> Result<Link, Memory>
-    requires least { 1 ≤ number }
-    requires most { number ≤ MOST_LINKS }
-    ensures ready { IfOk result (λ k. k ≡ link_ready k.tables) }
-    ensures settings { IfOk result (λ k. tables_seen k.tables ≡ settings_of number (end_seen config.now)) }
-{
-    let mut link = Link::new(alloc, config, number)?;
-    open_all(&mut link, &CONTROLS, told);
-    Ok(link)
-}
-
-/// Protocols of a link are to be opened.
-#[tactic(auto, unfolding(crate::specs::Station::opens_all))]
-fn open_all(link: &mut Link, protos: &[Proto], told: &mut LinkOut)
-    ensures { link.new ≡ opens_all protos.now link.old }
-{
-    for i in 0..protos.len() {
-        link.admin_open(protos[i], 0, told);
+        self.hub.trunk.held()
     }
 }

@@ -1,315 +1,168 @@
-//! What comes of the events of stations.
+//! What comes of the events of a station.
 
-use crate::StationEvent::{AdminClose, AdminOpen, Bytes, Down, Reset, Timeout, Up};
-use crate::pair::{Step, check};
+ghost use Rattle.std.specs.Prelude.{length, IsTrue};
+ghost use Rattle.ppp_trunk.specs.Trunk.{IsOfLink};
+
+use crate::{AskRefused, BapAsk, CallAsk, Policy, Station, StationEntry, StationEvent, StationOut};
+use ppp_conf::{EndConfig, read_config};
 use ppp_packet::Proto;
+use std::alloc::Global;
+use std::mem;
 use std::test::Fail;
 
-/// Both ends have two links and speak everything.
-const ALL: &str =
-    "links = 2\na.protocols = [\"ip\", \"ipv6\", \"osi\", \"mpls\"]\na.ip = \"10.0.0.1\"\n\
-    a.give = \"10.0.0.2\"\na.ifid = \"0000000000000001\"\na.mrru = 1500\na.disc = \"1:61\"\na.link_disc = 10\na.favored = 1\na.bap = true\n\
-    b.protocols = [\"ip\", \"ipv6\", \"osi\", \"mpls\"]\nb.ifid = \"0000000000000002\"\nb.mrru = 1500\nb.disc = \"1:62\"\nb.link_disc = 20\n\
-    b.favored = 2\nb.bap = true";
+/// Two ends that speak multilink and BACP on two links.
+const SETTINGS: &[u8] = b"version = 2\nlinks = 2\n\
+    a.mrru = 1500\na.disc = \"1:61\"\na.link_disc = 10\na.favored = 1\na.bap = true\n\
+    b.mrru = 1500\nb.disc = \"1:62\"\nb.link_disc = 20\nb.favored = 2\nb.bap = true\n";
 
-/// Both ends speak IPCP, on two links.
-const IP: &str =
-    "links = 2\na.protocols = [\"ip\"]\na.ip = \"10.0.0.1\"\nb.protocols = [\"ip\"]\nb.ip = \"10.0.0.2\"";
+/// One end: its station, the word that it takes, what its last event made, and the octets on the line to it of link 1.
+#[derive(Drop)]
+struct End<F: Policy> {
+    station: Station<F>,
+    word: u64,
+    out: StationOut,
+    line: Vec<u8>,
+}
 
-/// LCP is opened on the second link.
-const OPENING: &[Step<'static>] = &[
-    Step::A(AdminOpen(2, Proto::Lcp)),
-    Step::B(AdminOpen(2, Proto::Lcp)),
-    Step::A(Up(2)),
-    Step::B(Up(2)),
-    Step::Settle,
-];
+/// An end of these settings.
+fn make_end<F: Policy + Drop>(
+    alloc: Global,
+    config: &EndConfig,
+    policy: F,
+    word: u64,
+) -> Result<End<F>, Fail>
+    requires { F.may policy }
+{
+    Ok(End {
+        station: Station::new(alloc, config, policy)?,
+        word,
+        out: StationOut::new(alloc)?,
+        line: Vec::new(alloc),
+    })
+}
 
-/// IPCP isn't wanted at end b.
-const IP_CLOSED: &[Step<'static>] = &[
-    Step::B(AdminClose(2, Proto::Ip)),
-    Step::A(AdminOpen(2, Proto::Lcp)),
-    Step::B(AdminOpen(2, Proto::Lcp)),
-    Step::A(Up(2)),
-    Step::B(Up(2)),
-    Step::Settle,
-];
+/// Whether a station has a link.
+fn has_link<F: Policy>(station: &Station<F>, link: u8) -> bool
+    ensures { IsTrue result → IsOfLink (length station.now.station.trunk.links) link }
+{
+    1 <= link && link <= station.links()
+}
 
+/// What an end is told to do.
+#[derive(Clone, Copy)]
+enum Deed {
+    Up,
+    OpenLcp,
+    Call,
+}
+
+/// Does something at link 1 of an end, if it has that.
+fn act<F: Policy>(end: &mut End<F>, deed: Deed) {
+    if has_link(&end.station, 1) {
+        match deed {
+            Deed::Up => end
+                .station
+                .event(StationEvent::Up(1), end.word, &mut end.out),
+            Deed::OpenLcp => {
+                end.station.event(
+                    StationEvent::AdminOpen(1, Proto::Lcp),
+                    end.word,
+                    &mut end.out,
+                );
+            }
+            Deed::Call => {
+                end.station
+                    .event(StationEvent::Ask(1, BapAsk::Call), end.word, &mut end.out);
+            }
+        }
+    }
+}
+
+/// Writes what an event made that is no frame, and puts its frames on a line.
+fn post(out: &StationOut, line: &mut Vec<u8>, text: &mut String) -> Result<(), Fail> {
+    for i in 0..out.count() {
+        match out.at(i) {
+            StationEntry::Push { octets, .. } => line.extend_from_slice(octets)?,
+            StationEntry::Got { protocol, .. } => write!(text, "got {protocol:04x}; ")?,
+            StationEntry::Hang(link) => write!(text, "hang {link}; ")?,
+            StationEntry::Dial(link) => write!(text, "dial {link}; ")?,
+            StationEntry::Asked(Ok(())) => text.push_str("sent; ")?,
+            StationEntry::Asked(Err(AskRefused::NotOpen)) => text.push_str("NotOpen; ")?,
+            StationEntry::Asked(Err(_)) => text.push_str("refused; ")?,
+        }
+    }
+    Ok(())
+}
+
+/// An end takes what is on its line, frame by frame.
+fn take_line<F: Policy>(
+    alloc: Global,
+    end: &mut End<F>,
+    line: &mut Vec<u8>,
+    text: &mut String,
+) -> Result<(), Fail> {
+    let octets = mem::replace(&mut end.line, Vec::new(alloc));
+    let mut rest = octets.as_slice();
+    for _ in 0..octets.len() {
+        if rest.is_empty() {
+            break;
+        }
+        if has_link(&end.station, 1) {
+            end.station
+                .event(StationEvent::Bytes(1, rest), end.word, &mut end.out);
+            post(&end.out, line, text)?;
+        }
+        rest = rest.get(end.out.used()..).unwrap_or(&[]);
+    }
+    Ok(())
+}
+
+/// What comes of it that end a calls before both ends' LCP is opened on link 1, and again behind that: each end takes what the other
+/// sends, eight times.
+fn called<F: Policy + Drop, G: Policy + Drop>(
+    alloc: Global,
+    policies: (F, G),
+) -> Result<String, Fail>
+    requires a { F.may policies.0 }
+    requires b { G.may policies.1 }
+{
+    let config = read_config(alloc, SETTINGS)?;
+    let (policy_a, policy_b) = policies;
+    let mut a = make_end(alloc, &config.a, policy_a, 4)?;
+    let mut b = make_end(alloc, &config.b, policy_b, 9)?;
+    let mut text = String::new(alloc);
+    for deed in [Deed::Call, Deed::Up, Deed::OpenLcp] {
+        act(&mut a, deed);
+        post(&a.out, &mut b.line, &mut text)?;
+    }
+    for deed in [Deed::Up, Deed::OpenLcp] {
+        act(&mut b, deed);
+        post(&b.out, &mut a.line, &mut text)?;
+    }
+    'opening: for _ in 0..8_u8 {
+        take_line(alloc, &mut b, &mut a.line, &mut text)?;
+        take_line(alloc, &mut a, &mut b.line, &mut text)?;
+    }
+    act(&mut a, Deed::Call);
+    post(&a.out, &mut b.line, &mut text)?;
+    take_line(alloc, &mut b, &mut a.line, &mut text)?;
+    take_line(alloc, &mut a, &mut b.line, &mut text)?;
+    Ok(text)
+}
+
+/// A call is refused before BACP is Opened, and dials the link that the peer tells where its policy says yes.
 #[test]
-fn each_protocol_opens(rt: HostRuntime) -> Result<(), Fail> {
-    check(
-        rt.alloc(),
-        &rt,
-        ALL,
-        &[],
-        &[(
-            &[Step::States(1), Step::States(2), Step::Counts],
-            "Initial Starting Starting Starting Starting Starting ; Initial Starting Starting Starting Starting Starting ; \
-            Initial Starting Starting Starting Starting Starting ; Initial Starting Starting Starting Starting Starting ; \
-            links 2 used 0 held 0; ",
-        )],
+fn a_call_that_is_granted_dials(rt: HostRuntime) -> Result<(), Fail> {
+    let alloc = rt.alloc();
+    let granted = called(
+        alloc,
+        (|_: &CallAsk| false, |call: &CallAsk| call.speed <= 64),
     )?;
-    check(
-        rt.alloc(),
-        &rt,
-        ALL,
-        OPENING,
-        &[(
-            &[Step::States(1), Step::States(2)],
-            "Initial Starting Starting Starting Starting Starting ; Initial Starting Starting Starting Starting Starting ; \
-            Opened Opened Opened Opened Opened Opened ; Opened Opened Opened Opened Opened Opened ; ",
-        )],
-    )
-}
-
-#[test]
-fn datagrams_want_their_protocol(rt: HostRuntime) -> Result<(), Fail> {
-    let datagrams = [
-        Step::Frame(2, 0x0021, &[0x45, 0]),
-        Step::Frame(2, 0x0057, &[0x60]),
-        Step::Frame(2, 0x0023, &[1]),
-        Step::Frame(2, 0x0281, &[2]),
-        Step::Frame(2, 0x0283, &[3]),
-    ];
-    let closing = [
-        Step::A(AdminClose(2, Proto::Ipv6)),
-        Step::A(AdminClose(2, Proto::Mpls)),
-        Step::Frame(2, 0x0021, &[0x45, 0]),
-        Step::Frame(2, 0x0057, &[0x60]),
-        Step::Frame(2, 0x0281, &[2]),
-    ];
-    check(
-        rt.alloc(),
-        &rt,
-        ALL,
-        OPENING,
-        &[
-            (
-                &datagrams,
-                "got None 0021 4500; got None 0057 60; got None 0281 02; ",
-            ),
-            (&closing, "got None 0021 4500; "),
-        ],
-    )
-}
-
-#[test]
-fn goes_through_its_phases(rt: HostRuntime) -> Result<(), Fail> {
-    let datagram = Step::Frame(2, 0x0021, &[0x45, 0]);
-    let unknown = Step::Frame(2, 0x8001, &[1, 2, 3]);
-    check(
-        rt.alloc(),
-        &rt,
-        IP,
-        &[],
-        &[
-            (
-                &[datagram, unknown, Step::States(2)],
-                "Initial Starting - - - - ; Initial Starting - - - - ; ",
-            ),
-            (
-                &[
-                    Step::All(Up(2)),
-                    Step::All(AdminOpen(2, Proto::Lcp)),
-                    datagram,
-                    unknown,
-                    Step::All(Timeout(2, Proto::Lcp)),
-                ],
-                "push 2 c021 0101000a050600000004; push 2 c021 0101000a050600000004; ",
-            ),
-        ],
+    assert_eq!(rt; granted.as_str(), "NotOpen; sent; dial 2; ");
+    let denied = called(
+        alloc,
+        (|_: &CallAsk| true, |call: &CallAsk| call.speed < 64),
     )?;
-    check(
-        rt.alloc(),
-        &rt,
-        IP,
-        IP_CLOSED,
-        &[(
-            &[Step::States(2), datagram, unknown, unknown],
-            "Opened Req-Sent - - - - ; Opened Closed - - - - ; push 2 c021 080100098001010203; push 2 c021 080200098001010203; ",
-        )],
-    )?;
-    check(
-        rt.alloc(),
-        &rt,
-        IP,
-        OPENING,
-        &[
-            (
-                &[
-                    datagram,
-                    Step::Frame(2, 0x0023, &[1]),
-                    Step::Frame(1, 0x0021, &[0x45, 0]),
-                ],
-                "got None 0021 4500; push 2 c021 08010007002301; ",
-            ),
-            (
-                &[Step::All(Down(2)), Step::States(2), Step::States(1)],
-                "Starting Starting - - - - ; Opened Opened - - - - ; Initial Starting - - - - ; Initial Starting - - - - ; ",
-            ),
-            (
-                &[
-                    Step::A(AdminClose(2, Proto::Ip)),
-                    Step::Settle,
-                    Step::States(2),
-                    datagram,
-                ],
-                "Opened Closed - - - - ; Opened Stopping - - - - ; ",
-            ),
-            (
-                &[
-                    Step::A(AdminClose(2, Proto::Lcp)),
-                    Step::Settle,
-                    Step::States(2),
-                ],
-                "a hang 2; Closed Starting - - - - ; Stopping Starting - - - - ; ",
-            ),
-            (
-                &[
-                    Step::B(AdminClose(2, Proto::Lcp)),
-                    Step::Settle,
-                    Step::A(Timeout(2, Proto::Lcp)),
-                    Step::A(Down(2)),
-                    Step::States(2),
-                ],
-                "b hang 2; a hang 2; Starting Starting - - - - ; Closed Starting - - - - ; ",
-            ),
-            (
-                &[
-                    Step::All(Bytes(2, &[0x7e, 0xff, 0x7d, 0x23])),
-                    Step::Counts,
-                    Step::A(Reset),
-                    Step::Counts,
-                    Step::States(2),
-                ],
-                "links 2 used 4 held 2; links 2 used 0 held 0; Initial Starting - - - - ; Opened Opened - - - - ; ",
-            ),
-        ],
-    )
-}
-
-/// Both links open, the second first; b's discriminator is greater, so a is the senior end.
-const BOTH_OPEN: &[Step<'static>] = &[
-    Step::A(AdminOpen(1, Proto::Lcp)),
-    Step::B(AdminOpen(1, Proto::Lcp)),
-    Step::A(AdminOpen(2, Proto::Lcp)),
-    Step::B(AdminOpen(2, Proto::Lcp)),
-    Step::A(Up(2)),
-    Step::B(Up(2)),
-    Step::Settle,
-    Step::A(Up(1)),
-    Step::B(Up(1)),
-    Step::Settle,
-];
-
-#[test]
-fn control_protocols_follow_the_control_link(rt: HostRuntime) -> Result<(), Fail> {
-    let datagram = Step::Frame(2, 0x0021, &[0x45, 0]);
-    check(
-        rt.alloc(),
-        &rt,
-        ALL,
-        BOTH_OPEN,
-        &[
-            (
-                &[Step::Controls, Step::States(1), Step::States(2), datagram],
-                "0 by 1 ; 0 by 1 ; Opened Opened Opened Opened Opened Opened ; Opened Opened Opened Opened Opened Opened ; \
-                Opened Starting Starting Starting Starting Starting ; Opened Starting Starting Starting Starting Starting ; got None 0021 4500; ",
-            ),
-            (
-                &[
-                    Step::A(AdminClose(1, Proto::Lcp)),
-                    Step::Settle,
-                    Step::Controls,
-                    Step::States(1),
-                    Step::States(2),
-                ],
-                "a hang 1; 0 by 2 ; 0 by 2 ; Closed Starting Starting Starting Starting Starting ; Stopping Starting Starting Starting Starting Starting ; \
-                Opened Opened Opened Opened Opened Opened ; Opened Opened Opened Opened Opened Opened ; ",
-            ),
-            // a control protocol's packet that comes on another link than the control link is discarded
-            (
-                &[
-                    Step::Frame(2, 0x8021, &[1, 1, 0, 4]),
-                    Step::Frame(2, 0xc02b, &[1, 1, 0, 4]),
-                    Step::States(1),
-                ],
-                "Opened Opened Opened Opened Opened Opened ; Opened Opened Opened Opened Opened Opened ; ",
-            ),
-            // fragments are discarded until reassembly is built
-            (
-                &[Step::Frame(1, 0x003d, &[0xc0, 0, 0, 0, 0, 0x21, 0x45])],
-                "",
-            ),
-        ],
-    )
-}
-
-/// The peer of end b, whose discriminator is lesser, so that it is the senior end; its numbers descend where b's ascend.
-const DESCENDING: &[Step<'static>] = &[
-    Step::A(AdminOpen(1, Proto::Lcp)),
-    Step::A(AdminOpen(2, Proto::Lcp)),
-    Step::A(Up(1)),
-    Step::A(Up(2)),
-    Step::Frame(
-        1,
-        0xc021,
-        &[
-            1, 1, 0, 22, 5, 6, 0, 0, 0, 9, 17, 4, 5, 0xdc, 19, 4, 1, 0x60, 23, 4, 0, 21,
-        ],
-    ),
-    Step::Frame(
-        1,
-        0xc021,
-        &[
-            2, 1, 0, 22, 5, 6, 0, 0, 0, 4, 17, 4, 5, 0xdc, 19, 4, 1, 0x61, 23, 4, 0, 10,
-        ],
-    ),
-    Step::Frame(
-        2,
-        0xc021,
-        &[
-            1, 1, 0, 22, 5, 6, 0, 0, 0, 9, 17, 4, 5, 0xdc, 19, 4, 1, 0x60, 23, 4, 0, 20,
-        ],
-    ),
-    Step::Frame(
-        2,
-        0xc021,
-        &[
-            2, 1, 0, 22, 5, 6, 0, 0, 0, 4, 17, 4, 5, 0xdc, 19, 4, 1, 0x61, 23, 4, 0, 11,
-        ],
-    ),
-];
-
-#[test]
-fn senior_end_is_the_lesser_discriminator(rt: HostRuntime) -> Result<(), Fail> {
-    check(
-        rt.alloc(),
-        &rt,
-        ALL,
-        DESCENDING,
-        &[(
-            &[Step::Controls, Step::States(1), Step::States(2)],
-            "0 by 2 ; ; Opened Starting Starting Starting Starting Starting ; Initial Starting Starting Starting Starting Starting ; \
-            Opened Req-Sent Req-Sent Req-Sent Req-Sent Req-Sent ; Initial Starting Starting Starting Starting Starting ; ",
-        )],
-    )
-}
-
-#[test]
-fn unknown_code_is_rejected(rt: HostRuntime) -> Result<(), Fail> {
-    let octets = [
-        0x7e, 0xff, 0x7d, 0x23, 0xc0, 0x21, 0x7d, 0x2c, 0x7d, 0x27, 0x7d, 0x20, 0x7d, 0x24, 0x87,
-        0xe8, 0x7e,
-    ];
-    check(
-        rt.alloc(),
-        &rt,
-        "",
-        &[],
-        &[(
-            &[Step::A(Up(1)), Step::Raw(Bytes(1, &octets)), Step::Counts],
-            "1 7eff7d23c0217d277d217d207d287d2c7d277d207d24769c7e; links 1 used 17 held 0; ",
-        )],
-    )
+    assert_eq!(rt; denied.as_str(), "NotOpen; sent; ");
+    Ok(())
 }

@@ -54,7 +54,7 @@ use Rattle.ppp_party.specs.Frame.{only}
 use Rattle.ppp_party.specs.Held.{IsHeld, IsLone}
 use Rattle.ppp_party.specs.Kept.{Kept, duet_of}
 use Rattle.ppp_party.specs.Ledger.{Ledger, end_of, ledger_at}
-use Rattle.ppp_party.specs.Party.{Ends, Party, turned}
+use Rattle.ppp_party.specs.Party.{Ends, Party, station_of, turned}
 use Rattle.ppp_party.specs.Seat.{Seat, SeatAt}
 use Rattle.ppp_party.specs.Spans.{ledger_on, queue_on}
 use Rattle.ppp_world.specs.Agreement.{AgreeBy, AgreesOn, Fits, agree_of, agree_on, auto_on, duet_on, duet_with, end_on, fits, is_opened_if, link_on, opened_on, passes, rules_if, rules_of, rules_on, state_on}
@@ -154,8 +154,8 @@ link_there (suc before) links k low is = let same : suc before - 1 ≡ before = 
 
 -- a link of an end with its ledgers, and the protocol's automaton there
 record EndAt (m : ℕ) (p : Proto) (e : Party) (s : Seat) (a : Auto) : Type 0 where
-  link : link_on m e.station.links ≡ Some s.link
-  auto : auto_on m p e.station.links ≡ Some a
+  link : link_on m e.trunk.links ≡ Some s.link
+  auto : auto_on m p e.trunk.links ≡ Some a
   end : end_on m p e ≡ Some (end_of a (ledger_at s.ledgers p))
 
 pub auto-there : (m : ℕ) (p : Proto) (links : List Link) (k : Link) → link_on m links ≡ Some k → auto_on m p links ≡ auto_at k.automata p
@@ -163,8 +163,8 @@ auto-there m p links k there = rw there refl
 
 end-there : (m : ℕ) (p : Proto) (e : Ends) (s : Seat) (a : Auto) → 1 ≤ m → SeatAt m e s → auto_at s.link.automata p ≡ Some a → EndAt m p e.own s a
 end-there m p e s a low at is =
-    let link = link_there m e.own.station.links s.link low at.link in
-    let auto = auto-there m p e.own.station.links s.link link ∙ is in
+    let link = link_there m e.own.trunk.links s.link low at.link in
+    let auto = auto-there m p e.own.trunk.links s.link link ∙ is in
     record { link = link; auto = auto; end = rw (auto, at.ledgers) refl }
 
 rules-there : (m : ℕ) (p : Proto) (links : List Link) (k : Link) → link_on m links ≡ Some k → rules_on m p links ≡ rules_of k.tables p
@@ -222,21 +222,21 @@ kept-agrees sa sb p m e low k =
     let other = end-there m p (turned e) k.other k.other_auto low k.other_seated.at k.other_seated.end.auto in
     let d = duet_of k in
     let there = duet-there sa sb p m e k own other in
-    let rs = rules-there m p e.own.station.links k.own.link own.link in
-    let ts = rules-there m p e.other.station.links k.other.link other.link in
+    let rs = rules-there m p e.own.trunk.links k.own.link own.link in
+    let ts = rules-there m p e.other.trunk.links k.other.link other.link in
     let agree = tables-agree p k.own.link.tables k.other.link.tables sa sb d k.own_seated.end.spoken.table k.other_seated.end.spoken.table k.reached in
     record {
       agree = λ opened. record {
         duet = d;
         there = there;
-        agree = rw (rs, ts) (agree (state-is m p e.own.station.links k.own_auto own.auto opened.own) (state-is m p e.other.station.links k.other_auto other.auto opened.other));
+        agree = rw (rs, ts) (agree (state-is m p e.own.trunk.links k.own_auto own.auto opened.own) (state-is m p e.other.trunk.links k.other_auto other.auto opened.other));
       };
       told = rw (there, rs, ts) (agree-not_false p (rules_of k.own.link.tables p) (rules_of k.other.link.tables p) d agree);
     }
 
 -- ---- one of them doesn't, or has no such link
 
-end-absent : (m : ℕ) (p : Proto) (e : Party) → auto_on m p e.station.links ≡ None → end_on m p e ≡ None
+end-absent : (m : ℕ) (p : Proto) (e : Party) → auto_on m p e.trunk.links ≡ None → end_on m p e ≡ None
 end-absent m p e none = rw none refl
 
 duet-absent : (to_a to_b : List Marked) (a : Option End) → duet_with to_a to_b a None ≡ None
@@ -249,24 +249,24 @@ never-told m p e none = rw none (λ is. cc)
 never-opened : (m : ℕ) (p : Proto) (links : List Link) → auto_on m p links ≡ None → state_on m p links ≡ Some Opened → ⊥
 never-opened m p links none opened = let is : option_map (λ (a : Auto). a.state) None ≡ Some Opened = rw none at opened in cc
 
-own-absent : (m : ℕ) (p : Proto) (e : Ends) → auto_on m p e.own.station.links ≡ None → AgreesOn m p e
+own-absent : (m : ℕ) (p : Proto) (e : Ends) → auto_on m p e.own.trunk.links ≡ None → AgreesOn m p e
 own-absent m p e none = record {
-  agree = λ opened. absurd (never-opened m p e.own.station.links none opened.own);
+  agree = λ opened. absurd (never-opened m p e.own.trunk.links none opened.own);
   told = never-told m p e (rw (end-absent m p e.own none) refl);
 }
 
-other-absent : (m : ℕ) (p : Proto) (e : Ends) → auto_on m p e.other.station.links ≡ None → AgreesOn m p e
+other-absent : (m : ℕ) (p : Proto) (e : Ends) → auto_on m p e.other.trunk.links ≡ None → AgreesOn m p e
 other-absent m p e none = record {
-  agree = λ opened. absurd (never-opened m p e.other.station.links none opened.other);
+  agree = λ opened. absurd (never-opened m p e.other.trunk.links none opened.other);
   told = never-told m p e (rw (end-absent m p e.other none) (duet-absent _ _ (end_on m p e.own)));
 }
 
-lone-absent : (m : ℕ) (p : Proto) (e : Ends) → 1 ≤ m → IsLone m p e → auto_on m p e.other.station.links ≡ None
+lone-absent : (m : ℕ) (p : Proto) (e : Ends) → 1 ≤ m → IsLone m p e → auto_on m p e.other.trunk.links ≡ None
 lone-absent m p e low lone =
-    auto-there m p e.other.station.links lone.other.link (link_there m e.other.station.links lone.other.link low lone.other_at.link) ∙ lone.silent
+    auto-there m p e.other.trunk.links lone.other.link (link_there m e.other.trunk.links lone.other.link low lone.other_at.link) ∙ lone.silent
 
 -- no two ends then
-pub duet-nowhere : (m : ℕ) (p : Proto) (e : Ends) → auto_on m p e.own.station.links ≡ None → duet_on m p e ≡ None
+pub duet-nowhere : (m : ℕ) (p : Proto) (e : Ends) → auto_on m p e.own.trunk.links ≡ None → duet_on m p e ≡ None
 duet-nowhere m p e none = rw (end-absent m p e.own none) refl
 
 pub duet-lone : (m : ℕ) (p : Proto) (e : Ends) → 1 ≤ m → IsLone m p e → duet_on m p e ≡ None
@@ -276,7 +276,7 @@ pub duet-unspoken : (m : ℕ) (p : Proto) (e : Ends) → 1 ≤ m → IsLone m p 
 duet-unspoken m p e low lone = duet-nowhere m p e (lone-absent m p (turned e) low lone)
 
 -- where there is no such link
-pub agrees-nowhere : (m : ℕ) (p : Proto) (e : Ends) → link_on m e.own.station.links ≡ None → AgreesOn m p e
+pub agrees-nowhere : (m : ℕ) (p : Proto) (e : Ends) → link_on m e.own.trunk.links ≡ None → AgreesOn m p e
 agrees-nowhere m p e none = own-absent m p e (rw none refl)
 
 -- ---- in each state of a world
@@ -289,16 +289,16 @@ agrees-on m p e low held = elim held [
 ]
 
 -- on every link, whether it is there or not
-agrees-within : (e : Ends) → ((m : ℕ) (p : Proto) → 1 ≤ m → m ≤ length e.own.station.links → IsHeld m p e) → (m : ℕ) (p : Proto) → (m ≤ length e.own.station.links) ⊎ (length e.own.station.links < m) → AgreesOn m p e
+agrees-within : (e : Ends) → ((m : ℕ) (p : Proto) → 1 ≤ m → m ≤ length e.own.trunk.links → IsHeld m p e) → (m : ℕ) (p : Proto) → (m ≤ length e.own.trunk.links) ⊎ (length e.own.trunk.links < m) → AgreesOn m p e
 agrees-within e held zero p within = agrees-nowhere zero p e refl
 agrees-within e held (suc before) p (inl within) = agrees-on (suc before) p e (omega arith) (held (suc before) p (omega arith) within)
-agrees-within e held (suc before) p (inr beyond) = agrees-nowhere (suc before) p e (slice_get_past e.own.station.links before (omega (arith, beyond)))
+agrees-within e held (suc before) p (inr beyond) = agrees-nowhere (suc before) p e (slice_get_past e.own.trunk.links before (omega (arith, beyond)))
 
 pub within-or : (m n : ℕ) → (m ≤ n) ⊎ (n < m)
 within-or m n = grind (arith, nat_tests)
 
-pub agrees-everywhere : (e : Ends) → ((m : ℕ) (p : Proto) → 1 ≤ m → m ≤ length e.own.station.links → IsHeld m p e) → (m : ℕ) (p : Proto) → AgreesOn m p e
-agrees-everywhere e held m p = agrees-within e held m p (within-or m (length e.own.station.links))
+pub agrees-everywhere : (e : Ends) → ((m : ℕ) (p : Proto) → 1 ≤ m → m ≤ length e.own.trunk.links → IsHeld m p e) → (m : ℕ) (p : Proto) → AgreesOn m p e
+agrees-everywhere e held m p = agrees-within e held m p (within-or m (length e.own.trunk.links))
 
 -- ---- what is told
 
@@ -320,9 +320,9 @@ both-told p rs ts g h to_a to_b (Some a) None other = grind arith
 both-told p rs ts g h to_a to_b None y other = refl
 
 -- and where none disagree the states alone say it
-pub told-opened : (m : ℕ) (p : Proto) (e : Ends) → agree_on m p e ≢ Some false → agree_on m p e ≡ opened_on m p e.own.station.links e.other.station.links
+pub told-opened : (m : ℕ) (p : Proto) (e : Ends) → agree_on m p e ≢ Some false → agree_on m p e ≡ opened_on m p e.own.trunk.links e.other.trunk.links
 told-opened m p e other =
-    both-told p (rules_on m p e.own.station.links) (rules_on m p e.other.station.links) (ledger_on m p e.own) (ledger_on m p e.other) (only p (queue_on m e.own)) (only p (queue_on m e.other)) (auto_on m p e.own.station.links) (auto_on m p e.other.station.links) other
+    both-told p (rules_on m p e.own.trunk.links) (rules_on m p e.other.trunk.links) (ledger_on m p e.own) (ledger_on m p e.other) (only p (queue_on m e.own)) (only p (queue_on m e.other)) (auto_on m p e.own.trunk.links) (auto_on m p e.other.trunk.links) other
 
 -- ---- the report
 
@@ -335,9 +335,9 @@ lines-same f g (suc before) own other same =
     let earlier = lines-same f g before own other (λ m p low high. same m p low (omega (arith, high))) in
     rw (earlier, at Lcp, at Ip, at Ipv6, at Osi, at Mpls, at Bacp) refl
 
-pub told-block : (k : ℕ) (e : Ends) → ((m : ℕ) (p : Proto) → 1 ≤ m → m ≤ length e.own.station.links → agree_on m p e ≢ Some false) → told_block k e ≡ show_block k e.own.station e.other.station
+pub told-block : (k : ℕ) (e : Ends) → ((m : ℕ) (p : Proto) → 1 ≤ m → m ≤ length e.own.trunk.links → agree_on m p e ≢ Some false) → told_block k e ≡ show_block k (station_of e.own) (station_of e.other)
 told-block k e never =
-    let same = lines-same (λ m p. agree_on m p e) (λ m p. opened_on m p e.own.station.links e.other.station.links) (length e.own.station.links) e.own.station.links e.other.station.links (λ m p low high. told-opened m p e (never m p low high)) in
+    let same = lines-same (λ m p. agree_on m p e) (λ m p. opened_on m p e.own.trunk.links e.other.trunk.links) (length e.own.trunk.links) e.own.trunk.links e.other.trunk.links (λ m p low high. told-opened m p e (never m p low high)) in
     rw same refl
 
 -- ---- the tests of a report are what agreement is

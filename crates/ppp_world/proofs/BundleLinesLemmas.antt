@@ -32,7 +32,14 @@ pub peer-some : (o : Option Disc) (d : Disc) (b : ℕ) (t : Bundles) → o ≡ S
 unfolding peer_text
 peer-some o d b t some is = ap text_of (sym some) ∙ text-by o (first_key b t) is
 
--- a line of six pieces
-pub six-pieces : (a b c d e f : List ℕ) → a ++ (b ++ (c ++ (d ++ (e ++ f)))) ≡ a ++ b ++ c ++ d ++ e ++ f
-six-pieces a b c d e f =
-    rw (append_assoc (a ++ b ++ c ++ d) e f, append_assoc (a ++ b ++ c) d (e ++ f), append_assoc (a ++ b) c (d ++ (e ++ f)), append_assoc a b (c ++ (d ++ (e ++ f)))) refl
+-- a line of eight pieces
+pub eight-pieces : (a b c d e f g h : List ℕ) → a ++ (b ++ (c ++ (d ++ (e ++ (f ++ (g ++ h)))))) ≡ a ++ b ++ c ++ d ++ e ++ f ++ g ++ h
+eight-pieces a b c d e f g h =
+    rw (
+      append_assoc (a ++ b ++ c ++ d ++ e ++ f) g h,
+      append_assoc (a ++ b ++ c ++ d ++ e) f (g ++ h),
+      append_assoc (a ++ b ++ c ++ d) e (f ++ (g ++ h)),
+      append_assoc (a ++ b ++ c) d (e ++ (f ++ (g ++ h))),
+      append_assoc (a ++ b) c (d ++ (e ++ (f ++ (g ++ h)))),
+      append_assoc a b (c ++ (d ++ (e ++ (f ++ (g ++ h))))),
+    ) refl

@@ -9,7 +9,7 @@ use Rattle.ppp_party.specs.Party.{Ends, Party}
 use Rattle.ppp_party.specs.Spans.{sent_on}
 use Rattle.ppp_script.specs.declared.end.End.{End}
 use Rattle.ppp_world.specs.Ordinals.{NoneRose, QuietElsewhere, ordinal_if, ordinal_of}
-use Rattle.ppp_world.specs.Outstanding.{outstanding_on_link}
+use Rattle.ppp_world.specs.Outstanding.{control_outstanding}
 use Rattle.ppp_world.specs.declared.span.LinkOrdinals.{LinkOrdinals}
 use Rattle.ppp_world.specs.declared.span.Ordinals.{Ordinals}
 
@@ -33,8 +33,8 @@ kept-or None Bacp = refl
 kept-at : (kept : List LinkOrdinals) (i : ℕ) (p : Proto) → ordinal_of (get_or kept i all_zero) p ≡ ordinal_if (slice_get kept i) p
 kept-at kept i p = ap (λ o. ordinal_of o p) (sym (unwrap_or-slice_get kept i all_zero)) ∙ kept-or (slice_get kept i) p
 
-pub quiet-link : (name : End) (party : Party) (before : Ordinals) (i : ℕ) (e : Ends) → QuietElsewhere name party before e → i < length e.own.station.links → QuietBy (i + 1) party before.links i →
-    outstanding_on_link name (i + 1) e ≡ None
+pub quiet-link : (name : End) (party : Party) (before : Ordinals) (i : ℕ) (e : Ends) → QuietElsewhere name party before e → i < length e.own.trunk.links → QuietBy (i + 1) party before.links i →
+    control_outstanding name (i + 1) e ≡ None
 quiet-link name party before i e quiet below none =
     let same : i + 1 - 1 ≡ i = omega arith in
     quiet (i + 1) (omega arith) (omega (arith, below))

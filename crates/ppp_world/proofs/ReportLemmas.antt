@@ -1,6 +1,7 @@
 -- The blocks of a report, line by line.
 use Rattle.std.proofs.Common.{◌≡◌, ℕ, suc, ◌+◌, ◌<◌, List, ◌++◌, get_or, take, sym, ap, ◌∙◌, append_assoc, add-one}
 use Rattle.std.specs.List.{flat_map}
+use Rattle.std.specs.Prelude.{OnOk, Result, Ok, Err}
 use Rattle.std.proofs.lemmas.List.{flat_map_more, take_more}
 use Rattle.ppp_packet.specs.declared.proto.Proto.{Proto}
 use Rattle.ppp_link.specs.Link.{Link}
@@ -23,3 +24,10 @@ proto_all told i m own other begun after same is = rw same at is
 pub link_more : (told : Told) (n : ℕ) (own other : List Link) (begun before after : List ℕ) → before ≡ begun ++ lines_of told n own other →
     after ≡ before ++ link_lines told (n + 1) own other → after ≡ begun ++ lines_of told (n + 1) own other
 link_more told n own other begun before after is more = rw add-one (rw add-one at more ∙ ap (λ x. x ++ link_lines told (suc n) own other) is ∙ append_assoc begun (lines_of told n own other) (link_lines told (suc n) own other))
+
+-- the links, and behind them the bundles of both ends
+pub block-all : {E : Type 0} (r : Result (Unit {0}) E) (begun links first second : List ℕ) (x y z : List ℕ) → x ≡ begun ++ links → y ≡ x ++ first → OnOk r (z ≡ y ++ second) →
+    OnOk r (z ≡ begun ++ (links ++ first ++ second))
+block-all (Ok done) begun links first second x y z one two three =
+    three ∙ ap (λ w. w ++ second) (two ∙ ap (λ w. w ++ first) one ∙ append_assoc begun links first) ∙ append_assoc begun (links ++ first) second
+block-all (Err why) begun links first second x y z one two three = tt

@@ -20,11 +20,11 @@ use Rattle.ppp_party.specs.Frame.{only}
 use Rattle.ppp_party.specs.Ledger.{end_of}
 use Rattle.ppp_party.specs.Party.{Ends}
 use Rattle.ppp_party.specs.Spans.{ledger_on, queue_on}
-use Rattle.ppp_station.specs.Control.{key_in as granted, terms_in}
-use Rattle.ppp_station.specs.Phases.{IsJoinedBy, IsStation}
-use Rattle.ppp_station.specs.Station.{Station}
+use Rattle.ppp_trunk.specs.Control.{key_in as granted, terms_in}
+use Rattle.ppp_trunk.specs.Phases.{IsJoinedBy, IsTrunk}
+use Rattle.ppp_trunk.specs.Trunk.{Trunk}
 use Rattle.ppp_world.specs.Agreement.{AgreeOn, AgreesOn, auto_on, duet_on}
-use Rattle.ppp_world.specs.SameControl.{AreShared, AreStations, SameControl}
+use Rattle.ppp_world.specs.SameControl.{AreShared, AreTrunks, SameControl}
 use Rattle.ppp_world.proofs.AgreementLemmas.{auto-there, link_there}
 use Rattle.ppp_world.proofs.SoundLemmas.{some_at}
 
@@ -43,22 +43,22 @@ joined-by : (o : Option Member) (m : Member) (lcp : Auto) → IsJoinedBy o lcp �
 joined-by o m lcp joined is = subst (λ o. IsJoinedBy o lcp) is joined
 
 -- its link, whose LCP is Opened and grants what it is joined by
-record Joins (st : Station) (l b : ℕ) : Type 0 where
+record Joins (st : Trunk) (l b : ℕ) : Type 0 where
   link : Link
   at : slice_get st.links (l - 1) ≡ Some link
   opened : is_opened link.automata.lcp.state ≡ true
   key : key_at b l st.bundles ≡ Some (granted link.automata.lcp)
 
-joins : (st : Station) (l b : ℕ) → IsStation st → 1 ≤ l → bundle_at l st.bundles ≡ Some b → Joins st l b
-unfolding IsStation
-joins st l b station low is =
+joins : (st : Trunk) (l b : ℕ) → IsTrunk st → 1 ≤ l → bundle_at l st.bundles ≡ Some b → Joins st l b
+unfolding IsTrunk
+joins st l b trunk low is =
     let m = member-of (member_at l st.bundles) b is in
     let within = within-places st.bundles.places (l - 1) m.0 m.1 in
-    let links = ap (λ (n : _). n.links) station.limits in
-    let places = station.bundles.places in
+    let links = ap (λ (n : _). n.links) trunk.limits in
+    let places = trunk.bundles.places in
     let k = some_at st.links (l - 1) (omega (arith, within, links, places)) in
     let at : l - 1 + 1 ≡ l = omega (arith, low) in
-    let joined = joined-by (member_at l st.bundles) m.0 k.0.automata.lcp (subst (λ n. IsJoinedBy (member_at n st.bundles) k.0.automata.lcp) at (station.joined (l - 1) k.0 k.1)) m.1 in
+    let joined = joined-by (member_at l st.bundles) m.0 k.0.automata.lcp (subst (λ n. IsJoinedBy (member_at n st.bundles) k.0.automata.lcp) at (trunk.joined (l - 1) k.0 k.1)) m.1 in
     record {
       link = k.0;
       at = k.1;
@@ -105,7 +105,7 @@ mirror-is a b a_opened b_opened own peer =
 lcp-on : (l : ℕ) (links : List Link) (k : Link) → 1 ≤ l → slice_get links (l - 1) ≡ Some k → auto_on l Lcp links ≡ Some k.automata.lcp
 lcp-on l links k low at = auto-there l Lcp links k (link_there l links k low at)
 
-duet-there : (l : ℕ) (e : Ends) (a b : Auto) → auto_on l Lcp e.own.station.links ≡ Some a → auto_on l Lcp e.other.station.links ≡ Some b →
+duet-there : (l : ℕ) (e : Ends) (a b : Auto) → auto_on l Lcp e.own.trunk.links ≡ Some a → auto_on l Lcp e.other.trunk.links ≡ Some b →
     duet_on l Lcp e ≡ Some (record {
       a = end_of a (ledger_on l Lcp e.own);
       b = end_of b (ledger_on l Lcp e.other);
@@ -114,13 +114,13 @@ duet-there : (l : ℕ) (e : Ends) (a b : Auto) → auto_on l Lcp e.own.station.l
     })
 duet-there l e a b own other = rw (own, other) refl
 
-ends-agree : (l : ℕ) (e : Ends) (k j : Link) → 1 ≤ l → slice_get e.own.station.links (l - 1) ≡ Some k → slice_get e.other.station.links (l - 1) ≡ Some j →
+ends-agree : (l : ℕ) (e : Ends) (k j : Link) → 1 ≤ l → slice_get e.own.trunk.links (l - 1) ≡ Some k → slice_get e.other.trunk.links (l - 1) ≡ Some j →
     is_opened k.automata.lcp.state ≡ true → is_opened j.automata.lcp.state ≡ true → AgreesOn l Lcp e → granted k.automata.lcp ≡ mirrored (granted j.automata.lcp)
 ends-agree l e k j low here there k_opened j_opened agrees =
     let a = k.automata.lcp in
     let b = j.automata.lcp in
-    let own = lcp-on l e.own.station.links k low here in
-    let other = lcp-on l e.other.station.links j low there in
+    let own = lcp-on l e.own.trunk.links k low here in
+    let other = lcp-on l e.other.trunk.links j low there in
     let a_is = opened-is a.state k_opened in
     let b_is = opened-is b.state j_opened in
     let agree : AgreeOn l Lcp e = agrees.agree (record {
@@ -137,36 +137,36 @@ ends-agree l e k j low here there k_opened j_opened agrees =
 
 -- ---- the two bundles
 
-module _ (e : Ends) (stations : AreStations e) (x y l : ℕ) (low : 1 ≤ l) (shared : AreShared x y e) where
-  none-there : key_at x l e.own.station.bundles ≡ None → (o : Option Key) → key_at y l e.other.station.bundles ≡ o → None ≡ option_map mirrored (key_at y l e.other.station.bundles)
+module _ (e : Ends) (trunks : AreTrunks e) (x y l : ℕ) (low : 1 ≤ l) (shared : AreShared x y e) where
+  none-there : key_at x l e.own.trunk.bundles ≡ None → (o : Option Key) → key_at y l e.other.trunk.bundles ≡ o → None ≡ option_map mirrored (key_at y l e.other.trunk.bundles)
   none-there none None is = sym (ap (option_map mirrored) is)
   none-there none (Some k) is =
-      let back = shared.back l low (key-joined (member_at l e.other.station.bundles) y k is) in
-      let here = joins e.own.station l x stations.own low back in
+      let back = shared.back l low (key-joined (member_at l e.other.trunk.bundles) y k is) in
+      let here = joins e.own.trunk l x trunks.own low back in
       let never : None ≡ Some (granted here.link.automata.lcp) = sym none ∙ here.key in
       absurd (cc)
 
   -- link by link each one's key is the other's, exchanged
-  key-mirror : AgreesOn l Lcp e → (o : Option Key) → key_at x l e.own.station.bundles ≡ o → o ≡ option_map mirrored (key_at y l e.other.station.bundles)
-  key-mirror agrees None is = none-there is (key_at y l e.other.station.bundles) refl
+  key-mirror : AgreesOn l Lcp e → (o : Option Key) → key_at x l e.own.trunk.bundles ≡ o → o ≡ option_map mirrored (key_at y l e.other.trunk.bundles)
+  key-mirror agrees None is = none-there is (key_at y l e.other.trunk.bundles) refl
   key-mirror agrees (Some k) is =
-      let in_own = key-joined (member_at l e.own.station.bundles) x k is in
-      let here = joins e.own.station l x stations.own low in_own in
-      let there = joins e.other.station l y stations.other low (shared.there l low in_own) in
+      let in_own = key-joined (member_at l e.own.trunk.bundles) x k is in
+      let here = joins e.own.trunk l x trunks.own low in_own in
+      let there = joins e.other.trunk l y trunks.other low (shared.there l low in_own) in
       sym is ∙ here.key ∙ ap (λ k. Some k) (ends-agree l e here.link there.link low here.at there.at here.opened there.opened agrees) ∙ sym (ap (option_map mirrored) there.key)
 
-sound-bundles : (st : Station) → IsStation st → IsBundles st.bundles
-unfolding IsStation
-sound-bundles st station = station.bundles
+sound-bundles : (st : Trunk) → IsTrunk st → IsBundles st.bundles
+unfolding IsTrunk
+sound-bundles st trunk = trunk.bundles
 
-pub same-control : (e : Ends) → AreStations e → ((l : ℕ) → AgreesOn l Lcp e) → SameControl e
-same-control e stations agrees x y shared =
-    control-same x y e.own.station.bundles e.other.station.bundles (sound-bundles e.own.station stations.own) (sound-bundles e.other.station stations.other)
-    (λ l low. key-mirror e stations x y l low shared (agrees l) (key_at x l e.own.station.bundles) refl)
+pub same-control : (e : Ends) → AreTrunks e → ((l : ℕ) → AgreesOn l Lcp e) → SameControl e
+same-control e trunks agrees x y shared =
+    control-same x y e.own.trunk.bundles e.other.trunk.bundles (sound-bundles e.own.trunk trunks.own) (sound-bundles e.other.trunk trunks.other)
+    (λ l low. key-mirror e trunks x y l low shared (agrees l) (key_at x l e.own.trunk.bundles) refl)
 
 -- ---- in each state of a world
 
-pub held-stations : (e : Ends) → IsHeld 1 Lcp e → AreStations e
-held-stations e (inl on) = record { own = on.kept.own_seated.station; other = on.kept.other_seated.station }
-held-stations e (inr (inl lone)) = let none : auto_at lone.other.link.automata Lcp ≡ None = lone.silent in absurd (cc)
-held-stations e (inr (inr lone)) = let none : auto_at lone.other.link.automata Lcp ≡ None = lone.silent in absurd (cc)
+pub held-trunks : (e : Ends) → IsHeld 1 Lcp e → AreTrunks e
+held-trunks e (inl on) = record { own = on.kept.own_seated.trunk; other = on.kept.other_seated.trunk }
+held-trunks e (inr (inl lone)) = let none : auto_at lone.other.link.automata Lcp ≡ None = lone.silent in absurd (cc)
+held-trunks e (inr (inr lone)) = let none : auto_at lone.other.link.automata Lcp ≡ None = lone.silent in absurd (cc)

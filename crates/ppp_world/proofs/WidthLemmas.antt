@@ -1,5 +1,5 @@
--- No span is refused where none is too wide, and the search for one may leave out what is narrow.
-use Rattle.std.proofs.Common.{inl, inr, ◌≡◌, ℕ, zero, suc, ◌+◌, ◌-◌, ◌≤◌, ◌<◌, Bool, true, false, List, [], ◌∷◌, length, refl, sym, ap, ◌∙◌, subst, arith}
+-- No span is refused where none is too wide.
+use Rattle.std.proofs.Common.{inl, inr, ◌≡◌, ℕ, zero, suc, ◌+◌, ◌≤◌, ◌<◌, Bool, true, false, List, [], ◌∷◌, length, refl, sym, ◌∙◌, subst, arith}
 use Rattle.std.specs.Prelude.{Option, Some, None, nat_lt, if◌then◌else◌}
 use Rattle.std.specs.Option.{option_or}
 use Rattle.std.proofs.lemmas.Bool.Decides.{nat_tests}
@@ -11,7 +11,9 @@ use Rattle.ppp_party.specs.Party.{Ends, turned}
 use Rattle.ppp_party.specs.Spans.{NarrowOn, span_on}
 use Rattle.ppp_script.specs.declared.end.End.{End}
 use Rattle.ppp_script.specs.declared.end.End.TheVariants.{A, B}
-use Rattle.ppp_world.specs.Outstanding.{first_among, outstanding_from, outstanding_in, outstanding_on, outstanding_on_link, protocols}
+use Rattle.ppp_world.proofs.SearchLemmas.{none-front}
+use Rattle.ppp_world.specs.Ordinals.{QuietEverywhere}
+use Rattle.ppp_world.specs.Outstanding.{calls_outstanding, control_outstanding, first_among, if_on_link, outstanding_from, outstanding_in, outstanding_on, outstanding_on_link, protocols}
 use Rattle.ppp_world.specs.declared.outstanding.Outstanding.{Outstanding}
 
 -- ---- one span
@@ -37,10 +39,6 @@ neither None None h = (refl, refl)
 neither None (Some y) h = absurd (cc)
 neither (Some x) y h = absurd (cc)
 
-none-front : {X : Type 0} (x y : Option X) → x ≡ None → option_or x y ≡ y
-none-front None y none = refl
-none-front (Some x) y none = absurd (cc)
-
 none-among : {X : Type 0} (f : Proto → Option X) (ps : List Proto) → ((p : Proto) → f p ≡ None) → first_among f ps ≡ None
 none-among f [] all = refl
 none-among f (p ∷ ps) all = none-front (f p) (first_among f ps) (all p) ∙ none-among f ps all
@@ -63,11 +61,13 @@ each-among f none p =
     of Mpls lcp ip ipv6 osi mpls bacp = mpls
     of Bacp lcp ip ipv6 osi mpls bacp = bacp
 
-pub none-on-link : (name : End) (m : ℕ) (e : Ends) → ((p : Proto) → span_on m p e ≤ widest) → outstanding_on_link name m e ≡ None
+pub none-on-link : (name : End) (m : ℕ) (e : Ends) → ((p : Proto) → span_on m p e ≤ widest) → control_outstanding name m e ≡ None
 none-on-link name m e fit = none-among (outstanding_on name m e) protocols (λ p. none-on name m e p (fit p))
 
 fit-on-link : (name : End) (m : ℕ) (e : Ends) → outstanding_on_link name m e ≡ None → (p : Proto) → span_on m p e ≤ widest
-fit-on-link name m e none p = fits-on name m e p (each-among (outstanding_on name m e) none p)
+fit-on-link name m e none p =
+    let both = neither (control_outstanding name m e) (if_on_link m (calls_outstanding name e)) none in
+    fits-on name m e p (each-among (outstanding_on name m e) both.0 p)
 
 -- ---- those of some links
 
@@ -90,33 +90,18 @@ each-from name (suc more) m e none i above below =
 
 -- each protocol on each link is narrow
 abbrev pub AllNarrow : Ends → Type 0
-AllNarrow e = (m : ℕ) (p : Proto) → 1 ≤ m → m ≤ length e.own.station.links → NarrowOn m p e
+AllNarrow e = (m : ℕ) (p : Proto) → 1 ≤ m → m ≤ length e.own.trunk.links → NarrowOn m p e
 
-pub none-outstanding : (e : Ends) → AllNarrow e → outstanding_in e ≡ None
-none-outstanding e narrow =
-    none-front (outstanding_from A (length e.own.station.links) 1 e) (outstanding_from B (length e.own.station.links) 1 (turned e))
-    (none-from A (length e.own.station.links) 1 e (λ i above below. none-on-link A i e (λ p. (narrow i p above (omega (arith, below))).of_own)))
-    ∙ none-from B (length e.own.station.links) 1 (turned e) (λ i above below. none-on-link B i (turned e) (λ p. (narrow i p above (omega (arith, below))).of_other))
+pub quiet-everywhere : (e : Ends) → AllNarrow e → QuietEverywhere e
+quiet-everywhere e narrow = record {
+  a = λ l above below. none-on-link A l e (λ p. (narrow l p above below).of_own);
+  b = λ l above below. none-on-link B l (turned e) (λ p. (narrow l p above below).of_other);
+}
 
 pub all-narrow : (e : Ends) → outstanding_in e ≡ None → AllNarrow e
 all-narrow e none m p above below =
-    let both = neither (outstanding_from A (length e.own.station.links) 1 e) (outstanding_from B (length e.own.station.links) 1 (turned e)) none in
+    let both = neither (outstanding_from A (length e.own.trunk.links) 1 e) (outstanding_from B (length e.own.trunk.links) 1 (turned e)) none in
     record {
-      of_own = fit-on-link A m e (each-from A (length e.own.station.links) 1 e both.0 m above (omega (arith, below))) p;
-      of_other = fit-on-link B m (turned e) (each-from B (length e.own.station.links) 1 (turned e) both.1 m above (omega (arith, below))) p;
+      of_own = fit-on-link A m e (each-from A (length e.own.trunk.links) 1 e both.0 m above (omega (arith, below))) p;
+      of_other = fit-on-link B m (turned e) (each-from B (length e.own.trunk.links) 1 (turned e) both.1 m above (omega (arith, below))) p;
     }
-
--- ---- the search, link by link
-
-pub next-link : (name : End) (links i : ℕ) (e : Ends) → i < links → outstanding_on_link name (i + 1) e ≡ None →
-    outstanding_from name (links - i) (i + 1) e ≡ outstanding_from name (links - (i + 1)) (i + 1 + 1) e
-next-link name links i e below none =
-    let left : links - i ≡ suc (links - (i + 1)) = omega arith in
-    ap (λ more. outstanding_from name more (i + 1) e) left
-    ∙ none-front (outstanding_on_link name (i + 1) e) (outstanding_from name (links - (i + 1)) (i + 1 + 1) e) none
-
-pub found-link : (name : End) (links i : ℕ) (e : Ends) (fault : Outstanding) → i < links → outstanding_on_link name (i + 1) e ≡ Some fault →
-    outstanding_from name (links - i) (i + 1) e ≡ Some fault
-found-link name links i e fault below some =
-    let left : links - i ≡ suc (links - (i + 1)) = omega arith in
-    ap (λ more. outstanding_from name more (i + 1) e) left ∙ ap (λ x. option_or x (outstanding_from name (links - (i + 1)) (i + 1 + 1) e)) some

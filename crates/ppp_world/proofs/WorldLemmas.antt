@@ -1,20 +1,30 @@
 -- A world that takes a script's events one by one does the moments of its run, up to the first that is refused.
-use Rattle.std.proofs.Common.{◌≡◌, ℕ, suc, ◌+◌, ◌-◌, ◌≤◌, ◌<◌, List, [], ◌∷◌, ◌++◌, length, refl, sym, ◌∙◌, ap, subst, arith, append_assoc}
-use Rattle.std.specs.Prelude.{Option, Some, None, IsSome, is_some, ⊤, true}
+use Rattle.std.proofs.Common.{◌≡◌, ℕ, zero, suc, ◌+◌, ◌-◌, ◌≤◌, Bool, false, List, [], ◌∷◌, ◌++◌, length, refl, sym, ◌∙◌, ap, subst, arith, append_assoc}
+use Rattle.std.specs.Prelude.{Option, Some, None, IsSome, is_some, Result, ⊤, true, slice_get}
 use Rattle.std.specs.Option.{option_map}
 use Rattle.std.proofs.lemmas.List.{append-nil}
 use Rattle.std.proofs.lemmas.List.Elements.{All-nil, All-cons, All-head, All-tail}
-use Rattle.ppp_party.specs.Party.{Ends}
+use Rattle.ppp_bap.specs.declared.ask_refused.AskRefused.{AskRefused}
+use Rattle.ppp_bap.specs.declared.call_ask.CallAsk.{CallAsk}
+use Rattle.ppp_party.specs.Frame.{Frame}
+use Rattle.ppp_party.specs.Party.{Ends, asked_for_front, asked_in_delivery, delivers, posted, station_of, taking_front, turned, with_heard}
+use Rattle.ppp_station.specs.Shipped.{answered}
+use Rattle.ppp_station.specs.Station.{hears}
+use Rattle.ppp_script.specs.declared.end.End.{End}
+use Rattle.ppp_script.specs.declared.end.End.TheVariants.{A, B}
 use Rattle.ppp_script.specs.declared.event.Event.{Event}
-use Rattle.ppp_world.specs.Makes.{AllRight, IsRight, LendThroughout, MakeThroughout, SentEverywhere, SentThroughout}
+use Rattle.ppp_world.specs.AskLine.{ask_line_if}
+use Rattle.ppp_world.specs.Makes.{IsRight, SentEverywhere}
 use Rattle.ppp_world.specs.Outstanding.{outstanding_in}
-use Rattle.ppp_world.specs.Run.{Moment, Place, moment_at, after_moment, deliveries, moments_of, place_after, run_from, shown, shown_at, report, refusal, refusal_with, before_refusal, kept_with, AgreeEverywhere, AgreeThroughout}
-use Rattle.ppp_world.specs.SameControl.{SameControl, SameControlThroughout}
-use Rattle.ppp_world.specs.Step.{moved, next_delivery, settling, step_of}
-use Rattle.ppp_world.specs.World.{World, world_of, place_of, written_by, unless_halted, does_moment, does_moments, does_step, world_after, settled, UnlessMemory, IsSound, IsSoundUnless}
+use Rattle.ppp_world.specs.Run.{Moment, Place, moment_at, after_moment, deliveries, moments_by, moments_of, place_after, run_from, shown, shown_at, report, refusal, refusal_with, before_refusal, kept_with, AgreeEverywhere, AgreeThroughout}
+use Rattle.ppp_world.specs.SameControl.{SameControl}
+use Rattle.ppp_world.specs.Says.{IfAsked, Says}
+use Rattle.ppp_world.specs.Step.{IsSaid, entries_made, moved, next_delivery, settling, step_of, taken_entries, word_of}
+use Rattle.ppp_world.specs.World.{Does, DoesBy, DoesStep, IsAnswerIn, IsSound, IsSoundUnless, Settles, Shows, UnlessMemory, World, does_moment, does_moments, does_step, place_of, settled, unless_halted, world_after, world_of, written_by}
 use Rattle.ppp_world.specs.declared.outstanding.Outstanding.{Outstanding as Outstanding'}
 use Rattle.ppp_world.specs.declared.refusal.Refusal.{Refusal}
 use Rattle.ppp_world.specs.declared.step.Step.{Step}
+use Rattle.ppp_world.specs.declared.step.Step.TheVariants.{Happens, Delivers, Asks, Tells, Tries, Loses, Reboots, Reports, Rests}
 use Rattle.ppp_world.specs.declared.world_fault.WorldFault.{WorldFault}
 use Rattle.ppp_world.specs.declared.world_fault.WorldFault.TheVariants.{Memory, Outstanding}
 use Rattle.ppp_world.proofs.RunLemmas.{Linked}
@@ -71,18 +81,18 @@ place_all w (m ∷ ms) going = by_halt (does_moment w m).halt refl (place_all (d
     by_halt (Some fault) is below = let same = halted_moments next ms fault is in let stays = ap (λ (x : World). x.halt) same in absurd (cc)
 
 -- the world after some events
-abbrev pub world_after_all : World → List Event → World
-world_after_all w [] = w
-world_after_all w (event ∷ events) = world_after_all (world_after w event) events
+abbrev pub world_after_all : Says → World → List Event → World
+world_after_all says w [] = w
+world_after_all says w (event ∷ events) = world_after_all says (world_after says w event) events
 
-pub run_is : (events : List Event) (w : World) → world_after_all w events ≡ does_moments w (run_from (place_of w) events)
-run_is [] w = refl
-run_is (event ∷ events) w =
-    let ms = moments_of event (place_of w) in
+pub run_is : (says : Says) (events : List Event) (w : World) → world_after_all says w events ≡ does_moments w (run_from says (place_of w) events)
+run_is says [] w = refl
+run_is says (event ∷ events) w =
+    let ms = moments_of says event (place_of w) in
     let next = does_moments w ms in
-    rw (does_moments-append w ms (run_from (place_after (place_of w) ms) events))
-    (run_is events next
-    ∙ onward next (place_after (place_of w) ms) (λ p. run_from p events) (place_all w ms))
+    rw (does_moments-append w ms (run_from says (place_after (place_of w) ms) events))
+    (run_is says events next
+    ∙ onward next (place_after (place_of w) ms) (λ p. run_from says p events) (place_all w ms))
 
 -- the step that is refused is the one after those that were done
 abbrev pub IsNextAfter : ℕ → Option Refusal → Type 0
@@ -116,11 +126,11 @@ becomes_one (Some fault) w m ms is number rest =
       next = rw (is, stays) number;
     }
 
-pub becomes : (ms : List Moment) (w : World) → w.halt ≡ None → Linked (place_of w) ms → Becomes w ms (does_moments w ms)
-becomes [] w going links = record { report = sym (append-nil w.report); halt = going; next = tt }
-becomes (m ∷ ms) w going links =
+pub becomes : (says : Says) (ms : List Moment) (w : World) → w.halt ≡ None → Linked says (place_of w) ms → Becomes w ms (does_moments w ms)
+becomes says [] w going links = record { report = sym (append-nil w.report); halt = going; next = tt }
+becomes says (m ∷ ms) w going links =
     rw (open_moment w m going) (becomes_one (outstanding_in m.after) w m ms refl (ap (λ (x : Moment). x.number) links.0)
-    (λ on. becomes ms (written_by w m (outstanding_in m.after)) on (rw (place_written w m (outstanding_in m.after) on) links.1)))
+    (λ on. becomes says ms (written_by w m (outstanding_in m.after)) on (rw (place_written w m (outstanding_in m.after) on) links.1)))
 
 pub before_refusal-none : (ms : List Moment) → refusal ms ≡ None → before_refusal ms ≡ ms
 before_refusal-none [] none = refl
@@ -130,42 +140,92 @@ before_refusal-none (m ∷ ms) none = kept (outstanding_in m.after) none (before
     kept None none below = ap (λ rest. m ∷ rest) (below none)
     kept (Some fault) none below = absurd (cc)
 
--- a step that is done, and one that is refused
-open_step : (old : Ends) (steps : ℕ) (text : List ℕ) (step : Step) →
-    let w = world_of old steps text None in let m = moment_at (place_of w) step in
-    does_step w step ≡ written_by w m (outstanding_in m.after)
+-- ---- a step that is done, and one that is refused
+
+-- a step of a world that hasn't halted
+open_step : (says : Says) (old : Ends) (steps : ℕ) (text : List ℕ) (step : Step) →
+    let w = world_of old steps text None in let m = moment_at says (place_of w) step in
+    does_step says w step ≡ written_by w m (outstanding_in m.after)
 unfolding does_moment
-open_step old steps text step = refl
+open_step says old steps text step = refl
 
-pub done_as : (old new : Ends) (steps : ℕ) (text longer : List ℕ) (step : Step) → new ≡ moved (steps + 1) old step → outstanding_in new ≡ None →
-    longer ≡ text ++ shown_at (steps + 1) new step → world_of new (steps + 1) longer None ≡ does_step (world_of old steps text None) step
-done_as old new steps text longer step is none shows = rw (open_step old steps text step, ← is, none) (rw shows refl)
+-- what is written is what is reported of the step
+shows-as : (says : Says) (k : ℕ) (e after : Ends) (step : Step) (a : Option (Result ⊤ AskRefused)) (text longer : List ℕ) → IsAnswerIn k e step a → Shows k step a after text longer →
+    longer ≡ text ++ shown_at k (entries_made says k e step) after step
+shows-as says k e after (Asks at l what) a text longer is shows = shows ∙ ap (λ a. text ++ ask_line_if k at what a) is
+shows-as says k e after (Happens at l what) a text longer is shows = shows
+shows-as says k e after (Delivers at l) a text longer is shows = shows
+shows-as says k e after (Tells at l status) a text longer is shows = shows
+shows-as says k e after (Tries at l) a text longer is shows = shows
+shows-as says k e after (Loses at l place) a text longer is shows = shows
+shows-as says k e after (Reboots at) a text longer is shows = shows
+shows-as says k e after Reports a text longer is shows = shows
+shows-as says k e after Rests a text longer is shows = shows
 
-pub refused_as : (old new : Ends) (steps : ℕ) (text : List ℕ) (step : Step) (fault : Outstanding') → new ≡ moved (steps + 1) old step →
-    outstanding_in new ≡ Some fault → world_of new steps text (Some (Outstanding fault)) ≡ does_step (world_of old steps text None) step
-refused_as old new steps text step fault is some = rw (open_step old steps text step, ← is, some) refl
+module _ (may : End → CallAsk → Bool → Type 0) (says : Says) (old new : Ends) (steps : ℕ) (text : List ℕ) (step : Step) (said : IsSaid may says (steps + 1) old step) (is : new ≡ moved says (steps + 1) old step) where
+  abbrev pub w : World
+  w = world_of old steps text None
+
+  abbrev pub m : Moment
+  m = moment_at says (place_of w) step
+
+  pub done_as : (longer : List ℕ) (a : Option (Result ⊤ AskRefused)) → outstanding_in new ≡ None → IsAnswerIn (steps + 1) old step a → Shows (steps + 1) step a new text longer → IsRight old m →
+      DoesStep may step w (world_of new (steps + 1) longer None)
+  done_as longer a none answers shows right = record {
+    says = says;
+    said = λ going. said;
+    world = rw (open_step says old steps text step, ← is, none) (rw (shows-as says (steps + 1) old new step a text longer answers shows) refl);
+    agreed = λ going on. subst AgreeEverywhere (sym is) right.agreed;
+    sent = λ going on. subst SentEverywhere (sym is) right.sent;
+    control = λ going on. subst SameControl (sym is) right.control;
+    makes = λ going on. right.makes;
+    lends = λ going on. right.lends;
+  }
+
+  pub refused_as : (fault : Outstanding') → outstanding_in new ≡ Some fault → DoesStep may step w (world_of new steps text (Some (Outstanding fault)))
+  refused_as fault some = record {
+    says = says;
+    said = λ going. said;
+    world = rw (open_step says old steps text step, ← is, some) refl;
+    agreed = λ going on. absurd (cc);
+    sent = λ going on. absurd (cc);
+    control = λ going on. absurd (cc);
+    makes = λ going on. absurd (cc);
+    lends = λ going on. absurd (cc);
+  }
 
 pub sound_unless : (halt : Option WorldFault) (ends : Ends) (steps : ℕ) → IsSoundUnless halt ends steps → halt ≡ None → IsSound ends steps
 sound_unless None ends steps sound going = sound
 sound_unless (Some fault) ends steps sound going = absurd (cc)
+
+pub no_halt : (halt : Option WorldFault) → false ≡ is_some halt → halt ≡ None
+no_halt None none = refl
+no_halt (Some fault) none = absurd (cc)
 
 pub some_halt : (halt : Option WorldFault) → true ≡ is_some halt → IsSome halt
 some_halt None some = absurd (cc)
 some_halt (Some fault) some = refl
 
 -- a world that has halted does nothing
-pub halted_done : (w : World) (step : Step) → IsSome w.halt → UnlessMemory w.halt (w ≡ does_step w step)
-halted_done w step some = by_halt w.halt refl some
+pub halted_does : (may : End → CallAsk → Bool → Type 0) (w : World) (step : Step) → IsSome w.halt → UnlessMemory w.halt (DoesStep may step w w)
+halted_does may w step some = by_halt w.halt refl some
   where
-    by_halt : (o : Option WorldFault) → w.halt ≡ o → IsSome o → UnlessMemory o (w ≡ does_step w step)
+    does : (fault : WorldFault) → w.halt ≡ Some fault → DoesStep may step w w
+    does fault is = record {
+      says = λ at question. false;
+      said = λ going. absurd (let both : None ≡ Some fault = sym going ∙ is in cc);
+      world = sym (halted_moment w _ fault is);
+      agreed = λ going on. absurd (let both : None ≡ Some fault = sym going ∙ is in cc);
+      sent = λ going on. absurd (let both : None ≡ Some fault = sym going ∙ is in cc);
+      control = λ going on. absurd (let both : None ≡ Some fault = sym going ∙ is in cc);
+      makes = λ going on. absurd (let both : None ≡ Some fault = sym going ∙ is in cc);
+      lends = λ going on. absurd (let both : None ≡ Some fault = sym going ∙ is in cc);
+    }
+
+    by_halt : (o : Option WorldFault) → w.halt ≡ o → IsSome o → UnlessMemory o (DoesStep may step w w)
     by_halt None is some = absurd (cc)
     by_halt (Some Memory) is some = tt
-    by_halt (Some (Outstanding fault)) is some = sym (halted_moment w _ (Outstanding fault) is)
-
-unless_map : (o : Option WorldFault) {P Q : Type 0} → UnlessMemory o P → (P → Q) → UnlessMemory o Q
-unless_map None p map = map p
-unless_map (Some Memory) p map = tt
-unless_map (Some (Outstanding fault)) p map = map p
+    by_halt (Some (Outstanding fault)) is some = does (Outstanding fault) is
 
 unless_always : (o : Option WorldFault) {P : Type 0} → P → UnlessMemory o P
 unless_always None p = p
@@ -182,11 +242,11 @@ unless_later None now next P is stays p = unless_always next.halt p
 unless_later (Some Memory) now next P is stays p = let same : next ≡ now = stays (rw is refl) in rw (same, is) tt
 unless_later (Some (Outstanding fault)) now next P is stays p = unless_always next.halt p
 
-settled_next : (count : ℕ) (w : World) → settled (suc count) w ≡ settled count (does_step w (next_delivery w.ends))
-settled_next count w =
-    let m = moment_at (place_of w) (next_delivery w.ends) in
+settled_next : (says : Says) (count : ℕ) (w : World) → settled says (suc count) w ≡ settled says count (does_step says w (next_delivery w.ends))
+settled_next says count w =
+    let m = moment_at says (place_of w) (next_delivery w.ends) in
     let next = does_moment w m in
-    sym (onward next (after_moment m) (λ p. deliveries count p) (place_on w m))
+    sym (onward next (after_moment m) (λ p. deliveries says count p) (place_on w m))
 
 -- ---- that two Opened ends agree in the states that a world was in
 
@@ -195,23 +255,6 @@ abbrev pub SoFar : Option WorldFault → Type 0 → Type 0 → Type 0
 SoFar None rest whole = rest → whole
 SoFar (Some Memory) rest whole = ⊤
 SoFar (Some (Outstanding fault)) rest whole = whole
-
--- a moment is done, or refused
-right-moment : (now next : World) (m : Moment) (ms : List Moment) (whole : Type 0) → now.halt ≡ None → UnlessMemory next.halt (next ≡ does_moment now m) →
-    (next.halt ≡ None → IsRight now.ends m) → (AllRight now.ends (before_refusal (m ∷ ms)) → whole) → SoFar next.halt (AllRight m.after (before_refusal ms)) whole
-right-moment now next m ms whole going done right all = by_halt next.halt refl done (outstanding_in m.after) refl
-  where
-    by_halt : (o : Option WorldFault) → next.halt ≡ o → UnlessMemory o (next ≡ does_moment now m) → (fault : Option Outstanding') → outstanding_in m.after ≡ fault →
-        SoFar o (AllRight m.after (before_refusal ms)) whole
-    by_halt None on did None none = λ rest. all (rw none (right on, rest))
-    by_halt None on did (Some fault) some =
-        let is : next ≡ written_by now m (Some fault) = did ∙ open_moment now m going ∙ ap (written_by now m) some in
-        absurd (let halted = ap (λ (w : World). w.halt) is in cc)
-    by_halt (Some Memory) on did fault some = tt
-    by_halt (Some (Outstanding why)) on did None none =
-        let is : next ≡ written_by now m None = did ∙ open_moment now m going ∙ ap (written_by now m) none in
-        absurd (let halted = ap (λ (w : World). w.halt) is in cc)
-    by_halt (Some (Outstanding why)) on did (Some fault) some = all (rw some tt)
 
 -- moments behind others count where none of those was refused
 agree-append : (ms ns : List Moment) → refusal ms ≡ None → AgreeThroughout (before_refusal ms) → AgreeThroughout (before_refusal ns) → AgreeThroughout (before_refusal (ms ++ ns))
@@ -244,127 +287,156 @@ going-by None is = refl
 going-by (Some r) is = absurd (cc)
 
 -- the moments of an event are done, up to one that is refused
-pub agreed-moments : (now next : World) (ms ns : List Moment) (whole : Type 0) → now.halt ≡ None → Linked (place_of now) ms → UnlessMemory next.halt (next ≡ does_moments now ms) →
+pub agreed-moments : (says : Says) (now next : World) (ms ns : List Moment) (whole : Type 0) → now.halt ≡ None → Linked says (place_of now) ms → UnlessMemory next.halt (next ≡ does_moments now ms) →
     UnlessMemory next.halt (AgreeThroughout (before_refusal ms)) → (AgreeThroughout (before_refusal (ms ++ ns)) → whole) → SoFar next.halt (AgreeThroughout (before_refusal ns)) whole
-agreed-moments now next ms ns whole going links done agreed all = by_halt next.halt refl done agreed
+agreed-moments says now next ms ns whole going links done agreed all = by_halt next.halt refl done agreed
   where
     by_halt : (o : Option WorldFault) → next.halt ≡ o → UnlessMemory o (next ≡ does_moments now ms) → UnlessMemory o (AgreeThroughout (before_refusal ms)) →
         SoFar o (AgreeThroughout (before_refusal ns)) whole
     by_halt None on did agreed =
-        let halted = sym on ∙ ap (λ (w : World). w.halt) did ∙ (becomes ms now going links).halt in
+        let halted = sym on ∙ ap (λ (w : World). w.halt) did ∙ (becomes says ms now going links).halt in
         λ rest. all (agree-append ms ns (going-by (refusal ms) halted) agreed rest)
     by_halt (Some Memory) on did agreed = tt
     by_halt (Some (Outstanding why)) on did agreed =
-        let halted = sym on ∙ ap (λ (w : World). w.halt) did ∙ (becomes ms now going links).halt in
+        let halted = sym on ∙ ap (λ (w : World). w.halt) did ∙ (becomes says ms now going links).halt in
         all (rw (refused-append ms ns (halted-by (refusal ms) (Outstanding why) halted)) agreed)
 
--- ---- that what is promised of a moment is so of all
+-- ---- deliveries, one after the other
 
--- where the rest of a settling's deliveries are right all are
-abbrev pub RightSoFar : ℕ → ℕ → World → Place → Option WorldFault → Type 0
-RightSoFar count left first now halt = SoFar halt (AllRight now.ends (before_refusal (deliveries left now))) (AllRight first.ends (before_refusal (deliveries count (place_of first))))
+-- a list of them, and one more
+snoc-settles : (may : End → CallAsk → Bool → Type 0) (count : ℕ) (first now next : World) → Settles may count first now → DoesStep may (next_delivery now.ends) now next → Settles may (suc count) first next
+snoc-settles may zero first now next same does = (next, subst (λ (w : World). DoesStep may (next_delivery w.ends) w next) same does, refl)
+snoc-settles may (suc count) first now next did does = (did.0, did.1, snoc-settles may count did.0 now next did.2 does)
 
--- so many of the deliveries of a settling are done
-pub record SettlesOn (count i : ℕ) (first now : World) : Type 0 where
-  pub done : UnlessMemory now.halt (settled count first ≡ settled (count - i) now)
+-- so many are done
+pub record SettlesOn (may : End → CallAsk → Bool → Type 0) (count : ℕ) (first now : World) : Type 0 where
+  pub done : UnlessMemory now.halt (Settles may count first now)
   pub halted : IsSome first.halt → now ≡ first
-  pub steps : now.steps ≤ first.steps + i
+  pub steps : now.steps ≤ first.steps + count
   pub later : first.steps ≤ now.steps
-  pub right : first.halt ≡ None → RightSoFar count (count - i) first (place_of now) now.halt
 
-pub settles_first : (count : ℕ) (first : World) → SettlesOn count 0 first first
-settles_first count first =
-    let whole : count - 0 ≡ count = omega arith in
-    record { done = unless_always first.halt (rw whole refl); halted = λ some. refl; steps = omega arith; later = omega arith; right = λ going. rw (going, whole) (λ all. all) }
+pub settles_first : (may : End → CallAsk → Bool → Type 0) (first : World) → SettlesOn may 0 first first
+settles_first may first = record { done = unless_always first.halt refl; halted = λ some. refl; steps = omega arith; later = omega arith }
 
-settles-right : (count i : ℕ) (first now next : World) → i < count → UnlessMemory next.halt (next ≡ does_step now (next_delivery now.ends)) → (IsSome now.halt → next ≡ now) →
-    (now.halt ≡ None → next.halt ≡ None → IsRight now.ends (moment_at (place_of now) (next_delivery now.ends))) → (o : Option WorldFault) → now.halt ≡ o →
-    RightSoFar count (count - i) first (place_of now) o → RightSoFar count (count - (i + 1)) first (place_of next) next.halt
-settles-right count i first now next below done stays right None going far =
-    let left : count - i ≡ suc (count - (i + 1)) = omega arith in
-    let whole = AllRight first.ends (before_refusal (deliveries count (place_of first))) in
-    let m = moment_at (place_of now) (next_delivery now.ends) in
-    at_next (right-moment now next m (deliveries (count - (i + 1)) (after_moment m)) whole going done (right going) (rw left at far))
+pub settles_next : (may : End → CallAsk → Bool → Type 0) (count : ℕ) (first now next : World) → UnlessMemory next.halt (DoesStep may (next_delivery now.ends) now next) → (IsSome now.halt → next ≡ now) →
+    next.steps ≤ now.steps + 1 → now.steps ≤ next.steps → SettlesOn may count first now → SettlesOn may (suc count) first next
+settles_next may count first now next done stays steps later far = record {
+  done = unless_both next.halt (unless_later now.halt now next (Settles may count first now) refl stays far.done) done (λ before one. snoc-settles may count first now next before one);
+  halted = λ some. let same : now ≡ first = far.halted some in stays (rw same some) ∙ same;
+  steps = omega (arith, far.steps, steps);
+  later = omega (arith, far.later, later);
+}
+
+-- an event
+pub settles-event : (may : End → CallAsk → Bool → Type 0) (count : ℕ) (event : Event) (old new : World) (o : Option WorldFault) → settling event ≡ Some count → UnlessMemory o (Settles may count old new) → UnlessMemory o (Does may event old new)
+settles-event may count event old new o is did = rw is did
+
+pub steps-event : (may : End → CallAsk → Bool → Type 0) (event : Event) (step : Step) (old new : World) (o : Option WorldFault) → settling event ≡ None → step ≡ step_of (length old.ends.own.trunk.links) event →
+    UnlessMemory o (DoesStep may step old new) → UnlessMemory o (Does may event old new)
+steps-event may event step old new o one is did = rw (one, ← is) did
+
+-- ---- policies of which each answer is known
+
+-- they answer so and nothing else
+abbrev pub Answer : (End → CallAsk → Bool → Type 0) → Says → Type 0
+Answer may says = (at : End) (question : CallAsk) (allowed : Bool) → may at question allowed → allowed ≡ says at question
+
+answered-same : (may : CallAsk → Bool → Type 0) (one other : CallAsk → Bool) (o : Option CallAsk) → ((question : CallAsk) (allowed : Bool) → may question allowed → allowed ≡ other question) → IfAsked may one o → answered one o ≡ answered other o
+answered-same may one other None known said = refl
+answered-same may one other (Some question) known said = known question (one question) said
+
+-- what follows is decided by the answers
+front-same : (one other : CallAsk → Bool) (l word : ℕ) (o : Option (List Frame)) (e : Ends) → answered one (asked_for_front l word o e.own) ≡ answered other (asked_for_front l word o e.own) →
+    (taking_front one l word o e ≡ taking_front other l word o e) × (taken_entries one l word e.own o ≡ taken_entries other l word e.own o)
+front-same one other l word None e same = (refl, refl)
+front-same one other l word (Some []) e same = (refl, refl)
+front-same one other l word (Some (f ∷ rest)) e same = (
+  ap (λ allowed. posted f.mark (hears allowed l f.octets (station_of e.own) word) (record e { own = with_heard l word f rest (slice_get e.own.trunk.links (l - 1)) e.own })) same,
+  ap (λ allowed. (hears allowed l f.octets (station_of e.own) word).out.entries) same,
+)
+
+delivers-same : (one other : CallAsk → Bool) (l word : ℕ) (e : Ends) → answered one (asked_in_delivery l word e.own) ≡ answered other (asked_in_delivery l word e.own) →
+    (delivers one l word e ≡ delivers other l word e) × (taken_entries one l word e.own (slice_get e.own.incoming (l - 1)) ≡ taken_entries other l word e.own (slice_get e.own.incoming (l - 1)))
+unfolding delivers
+delivers-same one other l word e same = front-same one other l word (slice_get e.own.incoming (l - 1)) e same
+
+module _ (may : End → CallAsk → Bool → Type 0) (says known : Says) (answer : Answer may known) where
+  step-same : (k : ℕ) (e : Ends) (step : Step) → IsSaid may says k e step → (moved says k e step ≡ moved known k e step) × (entries_made says k e step ≡ entries_made known k e step)
+  step-same k e (Delivers A l) said = delivers-same (says A) (known A) l (word_of A k) e (answered-same (may A) (says A) (known A) _ (answer A) said)
+  step-same k e (Delivers B l) said =
+      let same = delivers-same (says B) (known B) l (word_of B k) (turned e) (answered-same (may B) (says B) (known B) _ (answer B) said) in (ap turned same.0, same.1)
+  step-same k e (Happens at l what) said = (refl, refl)
+  step-same k e (Asks at l what) said = (refl, refl)
+  step-same k e (Tells at l status) said = (refl, refl)
+  step-same k e (Tries at l) said = (refl, refl)
+  step-same k e (Loses at l place) said = (refl, refl)
+  step-same k e (Reboots at) said = (refl, refl)
+  step-same k e Reports said = (refl, refl)
+  step-same k e Rests said = (refl, refl)
+
+  moment-same : (p : Place) (step : Step) → IsSaid may says (p.done + 1) p.ends step → moment_at says p step ≡ moment_at known p step
+  moment-same p step said =
+      let same = step-same (p.done + 1) p.ends step said in λ i. record { number = p.done + 1; step = step; entries = same.1 i; after = same.0 i }
+
+-- a step and what is known after it, for the answers that are known
+known-step : (may : End → CallAsk → Bool → Type 0) (known : Says) → Answer may known → (step : Step) (old new : World) → DoesStep may step old new → new ≡ does_step known old step
+known-step may known answer step old new did = by_halt old.halt refl
   where
-    m' : Moment
-    m' = moment_at (place_of now) (next_delivery now.ends)
+    by_halt : (o : Option WorldFault) → old.halt ≡ o → new ≡ does_step known old step
+    by_halt None going = did.world ∙ ap (does_moment old) (moment-same may did.says known answer (place_of old) step (did.said going))
+    by_halt (Some fault) is = did.world ∙ halted_moment old _ fault is ∙ sym (halted_moment old _ fault is)
 
-    at_next : RightSoFar count (count - (i + 1)) first (after_moment m') next.halt → RightSoFar count (count - (i + 1)) first (place_of next) next.halt
-    at_next far = by_halt next.halt refl done far
-      where
-        by_halt : (o : Option WorldFault) → next.halt ≡ o → UnlessMemory o (next ≡ does_step now (next_delivery now.ends)) →
-            RightSoFar count (count - (i + 1)) first (after_moment m') o → RightSoFar count (count - (i + 1)) first (place_of next) o
-        by_halt None on did far =
-            let at : place_of next ≡ after_moment m' = ap place_of did ∙ place_on now m' (sym (ap (λ (w : World). w.halt) did) ∙ on) in
-            subst (λ (q : Place). RightSoFar count (count - (i + 1)) first q None) (sym at) far
-        by_halt (Some Memory) on did far = tt
-        by_halt (Some (Outstanding why)) on did far = far
-settles-right count i first now next below done stays right (Some Memory) is far = let same : next ≡ now = stays (rw is refl) in rw (same, is) tt
-settles-right count i first now next below done stays right (Some (Outstanding why)) is far = let same : next ≡ now = stays (rw is refl) in rw (same, is) far
+known-settles : (may : End → CallAsk → Bool → Type 0) (known : Says) → Answer may known → (count : ℕ) (old new : World) → Settles may count old new → new ≡ settled known count old
+known-settles may known answer zero old new same = same
+known-settles may known answer (suc count) old new did =
+    known-settles may known answer count did.0 new did.2 ∙ ap (settled known count) (known-step may known answer (next_delivery old.ends) old did.0 did.1) ∙ sym (settled_next known count old)
 
-pub settles_next : (count i : ℕ) (first now next : World) → i < count → UnlessMemory next.halt (next ≡ does_step now (next_delivery now.ends)) → (IsSome now.halt → next ≡ now) → next.steps ≤ now.steps + 1 → now.steps ≤ next.steps →
-    (now.halt ≡ None → next.halt ≡ None → IsRight now.ends (moment_at (place_of now) (next_delivery now.ends))) → SettlesOn count i first now → SettlesOn count (i + 1) first next
-settles_next count i first now next below done stays steps later right far =
-    let left : count - i ≡ suc (count - (i + 1)) = omega arith in
-    record {
-      done = unless_both next.halt (unless_later now.halt now next (settled count first ≡ settled (count - i) now) refl stays far.done) done
-          (λ before one. before ∙ ap (λ k. settled k now) left ∙ settled_next (count - (i + 1)) now ∙ ap (settled (count - (i + 1))) (sym one));
-      halted = λ some. let same : now ≡ first = far.halted some in stays (rw same some) ∙ same;
-      steps = omega (arith, far.steps, steps);
-      later = omega (arith, far.later, later);
-      right = λ going. settles-right count i first now next below done stays right now.halt refl (far.right going);
-    }
+by-event : (may : End → CallAsk → Bool → Type 0) (known : Says) → Answer may known → (o : Option ℕ) (event : Event) (old new : World) → DoesBy may o event old new → new ≡ does_moments old (moments_by known o event (place_of old))
+by-event may known answer (Some count) event old new did = known-settles may known answer count old new did
+by-event may known answer None event old new did = known-step may known answer (step_of (length old.ends.own.trunk.links) event) old new did
 
--- when nothing is left all are right
-all-right : (o : Option WorldFault) (rest whole : Type 0) → rest → SoFar o rest whole → UnlessMemory o whole
-all-right None rest whole none far = far none
-all-right (Some Memory) rest whole none far = tt
-all-right (Some (Outstanding why)) rest whole none far = far
+pub known-event : (may : End → CallAsk → Bool → Type 0) (known : Says) → Answer may known → (event : Event) (old new : World) → Does may event old new → new ≡ world_after known old event
+known-event may known answer event old new did = by-event may known answer (settling event) event old new did
 
--- an event that is one step
-pub one-right : (now next : World) (step : Step) → now.halt ≡ None → UnlessMemory next.halt (next ≡ does_step now step) → (next.halt ≡ None → IsRight now.ends (moment_at (place_of now) step)) →
-    UnlessMemory next.halt (AllRight now.ends (before_refusal (moment_at (place_of now) step ∷ [])))
-one-right now next step going done right =
-    let m = moment_at (place_of now) step in
-    all-right next.halt (AllRight m.after (before_refusal [])) (AllRight now.ends (before_refusal (m ∷ []))) tt (right-moment now next m [] (AllRight now.ends (before_refusal (m ∷ []))) going done right (λ all. all))
+-- two Opened ends agree after each step that is done
+agree-one : (may : End → CallAsk → Bool → Type 0) (known : Says) → Answer may known → (step : Step) (old mid : World) (ms : List Moment) → old.halt ≡ None → DoesStep may step old mid →
+    (mid.halt ≡ None → place_of mid ≡ after_moment (moment_at known (place_of old) step) → AgreeThroughout (before_refusal ms)) →
+    AgreeThroughout (before_refusal (moment_at known (place_of old) step ∷ ms))
+agree-one may known answer step old mid ms going did rest = by_fault (outstanding_in m.after) refl
+  where
+    m : Moment
+    m = moment_at known (place_of old) step
 
-pub event-right : (now next : World) (event : Event) (step : Step) → settling event ≡ None → step ≡ step_of (length now.ends.own.station.links) event → now.halt ≡ None →
-    UnlessMemory next.halt (next ≡ does_step now step) → (next.halt ≡ None → IsRight now.ends (moment_at (place_of now) step)) → UnlessMemory next.halt (AllRight now.ends (before_refusal (moments_of event (place_of now))))
-event-right now next event step one is going done right = rw (one, ← is) (one-right now next step going done right)
+    is : mid ≡ written_by old m (outstanding_in m.after)
+    is = known-step may known answer step old mid did ∙ open_moment old m going
 
--- in particular two Opened ends agree, each step is a list of the two ends' events, what is under way was sent, both ends of a
--- bundle have the same control link, and a delivery lends its frame
-rights-agree : (e : Ends) (ms : List Moment) → AllRight e ms → AgreeThroughout ms
-rights-agree e [] right = All-nil (λ (x : Moment). AgreeEverywhere x.after)
-rights-agree e (m ∷ ms) right = All-cons (λ (x : Moment). AgreeEverywhere x.after) m ms right.0.agreed (rights-agree m.after ms right.1)
+    by_fault : (o : Option Outstanding') → outstanding_in m.after ≡ o → AgreeThroughout (before_refusal (m ∷ ms))
+    by_fault None none =
+        let wrote : mid ≡ written_by old m None = is ∙ ap (written_by old m) none in
+        let on : mid.halt ≡ None = ap (λ (w : World). w.halt) wrote in
+        let at : place_of mid ≡ after_moment m = ap place_of wrote in
+        let here : AgreeEverywhere m.after = subst AgreeEverywhere (ap (λ (w : World). w.ends) wrote) (did.agreed going on) in
+        rw none (All-cons (λ (x : Moment). AgreeEverywhere x.after) m (before_refusal ms) here (rest on at))
+    by_fault (Some fault) some = rw some (All-nil (λ (x : Moment). AgreeEverywhere x.after))
 
-rights-make : (e : Ends) (ms : List Moment) → AllRight e ms → MakeThroughout e ms
-rights-make e [] right = tt
-rights-make e (m ∷ ms) right = (right.0.makes, rights-make m.after ms right.1)
+agree-settles : (may : End → CallAsk → Bool → Type 0) (known : Says) → Answer may known → (count : ℕ) (old new : World) → old.halt ≡ None → Settles may count old new → AgreeThroughout (before_refusal (deliveries known count (place_of old)))
+agree-settles may known answer zero old new going did = All-nil (λ (x : Moment). AgreeEverywhere x.after)
+agree-settles may known answer (suc count) old new going did =
+    let m = moment_at known (place_of old) (next_delivery old.ends) in
+    agree-one may known answer (next_delivery old.ends) old did.0 (deliveries known count (after_moment m)) going did.1
+    (λ on at. subst (λ p. AgreeThroughout (before_refusal (deliveries known count p))) at (agree-settles may known answer count did.0 new on did.2))
 
-rights-sent : (e : Ends) (ms : List Moment) → AllRight e ms → SentThroughout ms
-rights-sent e [] right = All-nil (λ (x : Moment). SentEverywhere x.after)
-rights-sent e (m ∷ ms) right = All-cons (λ (x : Moment). SentEverywhere x.after) m ms right.0.sent (rights-sent m.after ms right.1)
+agree-by : (may : End → CallAsk → Bool → Type 0) (known : Says) → Answer may known → (o : Option ℕ) (event : Event) (old new : World) → old.halt ≡ None → DoesBy may o event old new →
+    AgreeThroughout (before_refusal (moments_by known o event (place_of old)))
+agree-by may known answer (Some count) event old new going did = agree-settles may known answer count old new going did
+agree-by may known answer None event old new going did =
+    agree-one may known answer (step_of (length old.ends.own.trunk.links) event) old new [] going did (λ on at. All-nil (λ (x : Moment). AgreeEverywhere x.after))
 
-rights-control : (e : Ends) (ms : List Moment) → AllRight e ms → SameControlThroughout ms
-rights-control e [] right = All-nil (λ (x : Moment). SameControl x.after)
-rights-control e (m ∷ ms) right = All-cons (λ (x : Moment). SameControl x.after) m ms right.0.control (rights-control m.after ms right.1)
+pub agree-event : (may : End → CallAsk → Bool → Type 0) (known : Says) → Answer may known → (event : Event) (old new : World) → old.halt ≡ None → Does may event old new →
+    AgreeThroughout (before_refusal (moments_of known event (place_of old)))
+agree-event may known answer event old new going did = agree-by may known answer (settling event) event old new going did
 
-rights-lend : (e : Ends) (ms : List Moment) → AllRight e ms → LendThroughout e ms
-rights-lend e [] right = tt
-rights-lend e (m ∷ ms) right = (right.0.lends, rights-lend m.after ms right.1)
-
-pub unless-agree : (o : Option WorldFault) (e : Ends) (ms : List Moment) → UnlessMemory o (AllRight e ms) → UnlessMemory o (AgreeThroughout ms)
-unless-agree o e ms right = unless_map o right (rights-agree e ms)
-
-pub unless-make : (o : Option WorldFault) (e : Ends) (ms : List Moment) → UnlessMemory o (AllRight e ms) → UnlessMemory o (MakeThroughout e ms)
-unless-make o e ms right = unless_map o right (rights-make e ms)
-
-pub unless-sent : (o : Option WorldFault) (e : Ends) (ms : List Moment) → UnlessMemory o (AllRight e ms) → UnlessMemory o (SentThroughout ms)
-unless-sent o e ms right = unless_map o right (rights-sent e ms)
-
-pub unless-lend : (o : Option WorldFault) (e : Ends) (ms : List Moment) → UnlessMemory o (AllRight e ms) → UnlessMemory o (LendThroughout e ms)
-unless-lend o e ms right = unless_map o right (rights-lend e ms)
-
-pub unless-control : (o : Option WorldFault) (e : Ends) (ms : List Moment) → UnlessMemory o (AllRight e ms) → UnlessMemory o (SameControlThroughout ms)
-unless-control o e ms right = unless_map o right (rights-control e ms)
+pub unless_map : (o : Option WorldFault) {P Q : Type 0} → UnlessMemory o P → (P → Q) → UnlessMemory o Q
+unless_map None p map = map p
+unless_map (Some Memory) p map = tt
+unless_map (Some (Outstanding fault)) p map = map p

@@ -71,7 +71,7 @@ rules_on m p links = rules_if (λ k. rules_of k.tables p) (link_on m links)
 
 -- an end of it, with what is counted there
 abbrev pub end_on : ℕ → Proto → Party → Option End
-end_on m p e = option_map (λ a. end_of a (ledger_on m p e)) (auto_on m p e.station.links)
+end_on m p e = option_map (λ a. end_of a (ledger_on m p e)) (auto_on m p e.trunk.links)
 
 -- both ends and what is under way between them, where both have it
 abbrev pub duet_with : List Marked → List Marked → Option End → Option End → Option Duet
@@ -110,7 +110,7 @@ agree_of p rs ts d = then_some (is_opened d.a.auto.state && is_opened d.b.auto.s
 
 -- whether the two ends of a protocol on a link agree: None too where one of them doesn't have it
 abbrev pub agree_on : ℕ → Proto → Ends → Option Bool
-agree_on m p e = option_and_then (agree_of p (rules_on m p e.own.station.links) (rules_on m p e.other.station.links)) (duet_on m p e)
+agree_on m p e = option_and_then (agree_of p (rules_on m p e.own.trunk.links) (rules_on m p e.other.trunk.links)) (duet_on m p e)
 
 -- The same without the tests, from the links alone: Some true where both are Opened. Wherever `agree_on` isn't Some false, the
 -- two are the same (proofs/AgreementLemmas, `told-opened`).
@@ -125,8 +125,8 @@ opened_on m p own other = then_some (is_opened_if (state_on m p own) && is_opene
 
 -- both automata of a protocol on a link are Opened
 pub record AreOpenedOn (m : ℕ) (p : Proto) (e : Ends) : Type 0 where
-  pub own : state_on m p e.own.station.links ≡ Some Opened
-  pub other : state_on m p e.other.station.links ≡ Some Opened
+  pub own : state_on m p e.own.trunk.links ≡ Some Opened
+  pub other : state_on m p e.other.trunk.links ≡ Some Opened
 
 -- two lists of a protocol fit, as its tables have it
 abbrev pub Fits : Proto → List ConfigOption → List ConfigOption → Type 0
@@ -144,7 +144,7 @@ AgreeBy p rs ts d = Agree (Sendable rs) (Sendable ts) (Allows rs) (Allows ts) (F
 pub record AgreeOn (m : ℕ) (p : Proto) (e : Ends) : Type 0 where
   pub duet : Duet
   pub there : duet_on m p e ≡ Some duet
-  pub agree : AgreeBy p (rules_on m p e.own.station.links) (rules_on m p e.other.station.links) duet
+  pub agree : AgreeBy p (rules_on m p e.own.trunk.links) (rules_on m p e.other.trunk.links) duet
 
 -- In a state the two ends of a protocol on a link agree if both are Opened, and no report of it says that they don't.
 pub record AgreesOn (m : ℕ) (p : Proto) (e : Ends) : Type 0 where

@@ -1,5 +1,7 @@
 pub mod Agreement
+pub mod AskLine
 pub mod BundleLines
+pub mod Counts
 pub mod Decided
 pub mod Difference
 pub mod Makes
@@ -10,5 +12,6 @@ pub mod Replay
 pub mod Report
 pub mod Run
 pub mod SameControl
+pub mod Says
 pub mod Step
 pub mod World

@@ -1,6 +1,6 @@
 -- What a step of a world is to the two ends of each protocol on each link, a list of the two ends' own events; the frames that
 -- are under way; and the frame that a delivery lends.
-use Rattle.std.specs.Prelude.{◌≡◌, ℕ, ⊤, List, [], ◌∷◌, length, All, Option, Some}
+use Rattle.std.specs.Prelude.{◌≡◌, ℕ, ⊤, List, ◌∷◌, length, Option, Some}
 use Rattle.std.specs.Option.{option_and_then}
 use Rattle.ppp_duet.specs.Duet as duet
 use Rattle.ppp_duet.specs.Duet.{Duet, Setup, Side, start}
@@ -17,13 +17,13 @@ use Rattle.ppp_party.specs.Seat.{AreSent}
 use Rattle.ppp_party.specs.Spans.{queue_on}
 use Rattle.ppp_script.specs.declared.end.End.{End}
 use Rattle.ppp_script.specs.declared.end.End.TheVariants.{A, B}
-use Rattle.ppp_station.specs.Station.{IsOfLink}
+use Rattle.ppp_trunk.specs.Trunk.{IsOfLink}
 use Rattle.ppp_world.specs.Agreement.{duet_on, link_on}
 use Rattle.ppp_world.specs.SameControl.{SameControl}
 use Rattle.ppp_world.specs.Run.{Moment, AgreeEverywhere}
 use Rattle.ppp_world.specs.Step.{party_at, peer_of, word_of}
 use Rattle.ppp_world.specs.declared.step.Step.{Step}
-use Rattle.ppp_world.specs.declared.step.Step.TheVariants.{Happens, Delivers, Loses, Reboots, Reports, Rests}
+use Rattle.ppp_world.specs.declared.step.Step.TheVariants.{Happens, Delivers, Asks, Tells, Tries, Loses, Reboots, Reports, Rests}
 
 -- ---- a step of two ends
 
@@ -46,6 +46,9 @@ abbrev pub LeadsIn : ℕ → Step → Setup → Setup → Duet → Duet → Type
 LeadsIn k (Reboots at) sa sb before after = Leads sa sb (anew_in sa sb k at before) after
 LeadsIn k (Happens at l what) sa sb before after = Makes sa sb before after
 LeadsIn k (Delivers at l) sa sb before after = Makes sa sb before after
+LeadsIn k (Asks at l what) sa sb before after = Makes sa sb before after
+LeadsIn k (Tells at l status) sa sb before after = Makes sa sb before after
+LeadsIn k (Tries at l) sa sb before after = Makes sa sb before after
 LeadsIn k (Loses at l place) sa sb before after = Makes sa sb before after
 LeadsIn k Reports sa sb before after = after ≡ before
 LeadsIn k Rests sa sb before after = after ≡ before
@@ -62,7 +65,7 @@ pub record StandsOn (m : ℕ) (p : Proto) (e : Ends) (IsSo : Duet → Type 0) : 
 abbrev pub RelatesOn : (Setup → Setup → Duet → Duet → Type 0) → ℕ → Proto → Ends → Ends → Type 0
 RelatesOn Is m p before after =
     (d : Duet) → duet_on m p before ≡ Some d
-    → StandsOn m p after (Is (setup_on m p before.own.station.links) (setup_on m p before.other.station.links) d)
+    → StandsOn m p after (Is (setup_on m p before.own.trunk.links) (setup_on m p before.other.trunk.links) d)
 
 abbrev pub MakesOn : ℕ → Proto → ℕ → Step → Ends → Ends → Type 0
 MakesOn m p k step before after = RelatesOn (LeadsIn k step) m p before after
@@ -76,8 +79,8 @@ MakesEverywhere before did = (m : ℕ) (p : Proto) → MakesOn m p did.number di
 -- the two ends of a protocol on a link stand where events that deliver nothing lead from their start
 abbrev pub StartsOn : ℕ → Proto → Ends → Type 0
 StartsOn m p e =
-    let sa = setup_on m p e.own.station.links in
-    let sb = setup_on m p e.other.station.links in
+    let sa = setup_on m p e.own.trunk.links in
+    let sb = setup_on m p e.other.trunk.links in
     (d : Duet) → duet_on m p e ≡ Some d → Leads sa sb (start sa sb) d
 
 abbrev pub StartEverywhere : Ends → Type 0
@@ -85,17 +88,13 @@ StartEverywhere e = (m : ℕ) (p : Proto) → StartsOn m p e
 
 -- ---- the frames under way
 
--- what is under way on a link, both ways, are frames that carry packets of control protocols
+-- what is under way on a link, both ways, are frames that carry packets of control protocols or of BAP
 abbrev pub SentOn : ℕ → Ends → Type 0
 SentOn m e = AreSent (queue_on m e.own) × AreSent (queue_on m e.other)
 
 -- on each link that is there
 abbrev pub SentEverywhere : Ends → Type 0
-SentEverywhere e = (m : ℕ) → IsOfLink (length e.own.station.links) m → SentOn m e
-
--- so it is after each of these moments
-abbrev pub SentThroughout : List Moment → Type 0
-SentThroughout ms = All (λ m. SentEverywhere m.after) ms
+SentEverywhere e = (m : ℕ) → IsOfLink (length e.own.trunk.links) m → SentOn m e
 
 -- ---- the frame that is lent
 
@@ -111,8 +110,11 @@ lent_on l links = option_and_then (λ k. k.deframer.frame) (link_on l links)
 abbrev pub LendsIn : Step → Ends → Ends → Type 0
 LendsIn (Delivers at l) before after =
     (f : Frame) (rest : List Frame) → queue_on l (party_at at before) ≡ f ∷ rest
-    → lent_on l (party_at at after).station.links ≡ option_and_then (read_on f.octets) (link_on l (party_at at before).station.links)
+    → lent_on l (party_at at after).trunk.links ≡ option_and_then (read_on f.octets) (link_on l (party_at at before).trunk.links)
 LendsIn (Happens at l what) before after = ⊤
+LendsIn (Asks at l what) before after = ⊤
+LendsIn (Tells at l status) before after = ⊤
+LendsIn (Tries at l) before after = ⊤
 LendsIn (Loses at l place) before after = ⊤
 LendsIn (Reboots at) before after = ⊤
 LendsIn Reports before after = ⊤
@@ -121,19 +123,6 @@ LendsIn Rests before after = ⊤
 abbrev pub Lends : Ends → Moment → Type 0
 Lends before did = LendsIn did.step before did.after
 
--- ---- throughout moments
-
--- it is so of each moment and the two ends before it
-abbrev pub Throughout : (Ends → Moment → Type 0) → Ends → List Moment → Type 0
-Throughout Is before [] = ⊤
-Throughout Is before (m ∷ ms) = Is before m × Throughout Is m.after ms
-
-abbrev pub MakeThroughout : Ends → List Moment → Type 0
-MakeThroughout before ms = Throughout MakesEverywhere before ms
-
-abbrev pub LendThroughout : Ends → List Moment → Type 0
-LendThroughout before ms = Throughout Lends before ms
-
 -- all that is promised of a moment
 pub record IsRight (before : Ends) (m : Moment) : Type 0 where
   pub agreed : AgreeEverywhere m.after
@@ -141,6 +130,3 @@ pub record IsRight (before : Ends) (m : Moment) : Type 0 where
   pub sent : SentEverywhere m.after
   pub control : SameControl m.after
   pub lends : Lends before m
-
-abbrev pub AllRight : Ends → List Moment → Type 0
-AllRight before ms = Throughout IsRight before ms

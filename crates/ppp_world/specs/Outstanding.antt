@@ -1,13 +1,15 @@
 -- A step is refused that makes a span wider than 255: whose, the ordinal of its last request, and the oldest of which
--- something is under way. End a comes before end b, then the least link, then the first protocol.
-use Rattle.std.specs.Prelude.{ℕ, zero, suc, ◌+◌, nat_lt, if◌then◌else◌, List, [], ◌∷◌, length, Option, Some, None}
+-- something is under way. End a comes before end b, then the least link, then the first protocol, and BAP behind them.
+use Rattle.std.specs.Prelude.{ℕ, zero, suc, ◌+◌, nat_lt, ◌==◌, if◌then◌else◌, List, [], ◌∷◌, length, Option, Some, None}
 use Rattle.std.specs.Option.{option_or}
 use Rattle.ppp_packet.specs.Proto.{proto_number}
 use Rattle.ppp_packet.specs.declared.proto.Proto.{Proto}
 use Rattle.ppp_packet.specs.declared.proto.Proto.TheVariants.{Lcp, Ip, Ipv6, Osi, Mpls, Bacp}
 use Rattle.ppp_duet.specs.Span.{widest}
+use Rattle.ppp_party.specs.BapSpans.{bap_oldest, bap_span}
 use Rattle.ppp_party.specs.Party.{Ends, Party, turned}
 use Rattle.ppp_party.specs.Spans.{oldest_on, sent_on, span_on}
+use Rattle.ppp_trunk.specs.declared.steps.TheConstants.{BAP}
 use Rattle.ppp_script.specs.declared.end.End.{End}
 use Rattle.ppp_script.specs.declared.end.End.TheVariants.{A, B}
 use Rattle.ppp_world.specs.declared.outstanding.Outstanding.{Outstanding}
@@ -32,8 +34,24 @@ first_among f [] = None
 first_among f (p ∷ ps) = option_or (f p) (first_among f ps)
 
 -- on a link
+abbrev pub control_outstanding : End → ℕ → Ends → Option Outstanding
+control_outstanding name m e = first_among (outstanding_on name m e) protocols
+
+-- Of BAP an end has one span, on whatever links: where it is too wide it is that of the least link on which the oldest is under
+-- way.
+abbrev pub calls_outstanding : End → Ends → Option Outstanding
+calls_outstanding name e =
+    if nat_lt widest (bap_span e)
+    then Some (record { end = name; link = (bap_oldest e).link; protocol = BAP; sent = e.own.calls.drawn; oldest = (bap_oldest e).mark })
+    else None
+
+abbrev pub if_on_link : ℕ → Option Outstanding → Option Outstanding
+if_on_link m None = None
+if_on_link m (Some fault) = if fault.link == m then Some fault else None
+
+-- BAP comes last
 abbrev pub outstanding_on_link : End → ℕ → Ends → Option Outstanding
-outstanding_on_link name m e = first_among (outstanding_on name m e) protocols
+outstanding_on_link name m e = option_or (control_outstanding name m e) (if_on_link m (calls_outstanding name e))
 
 -- on so many links, from one on
 abbrev pub outstanding_from : End → ℕ → ℕ → Ends → Option Outstanding
@@ -42,4 +60,4 @@ outstanding_from name (suc more) m e = option_or (outstanding_on_link name m e) 
 
 abbrev pub outstanding_in : Ends → Option Outstanding
 outstanding_in e =
-    option_or (outstanding_from A (length e.own.station.links) 1 e) (outstanding_from B (length e.own.station.links) 1 (turned e))
+    option_or (outstanding_from A (length e.own.trunk.links) 1 e) (outstanding_from B (length e.own.trunk.links) 1 (turned e))

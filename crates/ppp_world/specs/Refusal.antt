@@ -1,8 +1,9 @@
 -- The refusal of a step.
-use Rattle.std.specs.Prelude.{ℕ, List, ◌++◌, Option, Some, None, codes}
+use Rattle.std.specs.Prelude.{ℕ, ◌==◌, if◌then◌else◌, List, ◌++◌, Option, Some, None, codes}
 use Rattle.std.specs.Fmt.{decimal}
 use Rattle.ppp_packet.specs.Proto.{proto_of, proto_name}
 use Rattle.ppp_packet.specs.declared.proto.Proto.{Proto}
+use Rattle.ppp_trunk.specs.declared.steps.TheConstants.{BAP}
 use Rattle.ppp_script.specs.End.{end_name}
 use Rattle.ppp_world.specs.declared.outstanding.Outstanding.{Outstanding as Outstanding'}
 use Rattle.ppp_world.specs.declared.refusal.Refusal.{Refusal}
@@ -15,7 +16,7 @@ named_or (Some proto) n = proto_name proto
 named_or None n = decimal n
 
 abbrev pub protocol_text : ℕ → List ℕ
-protocol_text n = named_or (proto_of n) n
+protocol_text n = if n == BAP then codes "bap" else named_or (proto_of n) n
 
 -- whose requests they are, and how far they span
 unfoldable pub whose_text : Outstanding' → List ℕ

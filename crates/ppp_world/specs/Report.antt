@@ -12,9 +12,10 @@ use Rattle.ppp_auto.specs.Auto.{Auto, mine_of, peer_of}
 use Rattle.ppp_auto.specs.AutoState.{state_name}
 use Rattle.ppp_auto.specs.declared.auto_state.AutoState.{AutoState}
 use Rattle.ppp_link.specs.Link.{Link}
-use Rattle.ppp_party.specs.Party.{Ends}
+use Rattle.ppp_party.specs.Party.{Ends, station_of}
 use Rattle.ppp_station.specs.Station.{Station}
 use Rattle.ppp_script.specs.declared.end.End.TheVariants.{A, B}
+use Rattle.ppp_trunk.specs.Trunk.{Trunk}
 use Rattle.ppp_world.specs.Agreement.{agree_on, auto_on, opened_on}
 use Rattle.ppp_world.specs.BundleLines.{bundle_lines}
 use Rattle.ppp_world.specs.Outstanding.{protocols}
@@ -74,18 +75,18 @@ lines_of told zero own other = []
 lines_of told (suc before) own other = lines_of told before own other ++ link_lines told (suc before) own other
 
 -- what is said of the links of two ends, and behind it what is said of their bundles
-abbrev pub links_block : Told → ℕ → Station → Station → List ℕ
-links_block told k own other =
-    codes "show " ++ decimal k ++ codes "\n" ++ lines_of told (length own.links) own.links other.links
+abbrev pub links_block : Told → ℕ → Trunk → Trunk → List ℕ
+links_block told k own other = codes "show " ++ decimal k ++ codes "\n" ++ lines_of told (length own.links) own.links other.links
 
 abbrev pub block_by : Told → ℕ → Station → Station → List ℕ
-block_by told k own other = links_block told k own other ++ bundle_lines A own.bundles ++ bundle_lines B other.bundles
+block_by told k own other =
+    links_block told k own.trunk other.trunk ++ bundle_lines A own.trunk.bundles own.requests ++ bundle_lines B other.trunk.bundles other.requests
 
 -- the block of a `show` at a step
 abbrev pub told_block : ℕ → Ends → List ℕ
-told_block k e = block_by (λ m p. agree_on m p e) k e.own.station e.other.station
+told_block k e = block_by (λ m p. agree_on m p e) k (station_of e.own) (station_of e.other)
 
 -- The same from the stations alone, as it is written: wherever no two ends disagree it is that block (proofs/AgreementLemmas,
 -- `told-block`).
 abbrev pub show_block : ℕ → Station → Station → List ℕ
-show_block k own other = block_by (λ m p. opened_on m p own.links other.links) k own other
+show_block k own other = block_by (λ m p. opened_on m p own.trunk.links other.trunk.links) k own other

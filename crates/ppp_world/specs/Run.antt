@@ -1,18 +1,21 @@
 -- The run of a script, its report, and the first step that is refused.
 use Rattle.std.specs.Prelude.{ℕ, zero, suc, ◌+◌, List, [], ◌∷◌, ◌++◌, length, All, Option, Some, None}
+use Rattle.ppp_party.specs.Calls.{answer_in}
 use Rattle.ppp_party.specs.Party.{Ends, ends_begun}
 use Rattle.ppp_script.specs.declared.event.Event.{Event}
 use Rattle.ppp_station.specs.Station.{Station}
-use Rattle.ppp_station.specs.StationOut.{Entry}
+use Rattle.ppp_trunk.specs.StationOut.{Entry}
 use Rattle.ppp_packet.specs.declared.proto.Proto.{Proto}
 use Rattle.ppp_world.specs.Agreement.{AgreesOn}
+use Rattle.ppp_world.specs.AskLine.{ask_line_if}
 use Rattle.ppp_world.specs.Outstanding.{outstanding_in}
 use Rattle.ppp_world.specs.Report.{told_block}
+use Rattle.ppp_world.specs.Says.{Says}
 use Rattle.ppp_world.specs.Step.{step_of, settling, next_delivery, entries_made, moved}
 use Rattle.ppp_world.specs.declared.outstanding.Outstanding.{Outstanding}
 use Rattle.ppp_world.specs.declared.refusal.Refusal.{Refusal}
 use Rattle.ppp_world.specs.declared.step.Step.{Step}
-use Rattle.ppp_world.specs.declared.step.Step.TheVariants.{Happens, Delivers, Loses, Reboots, Reports, Rests}
+use Rattle.ppp_world.specs.declared.step.Step.TheVariants.{Happens, Delivers, Asks, Tells, Tries, Loses, Reboots, Reports, Rests}
 
 -- a step that was done: its number, what it was, the entries that the stations made, and the two ends after it
 pub record Moment : Type 0 where
@@ -27,57 +30,61 @@ pub record Place : Type 0 where
   pub ends : Ends
 
 -- the moment of a step there
-abbrev pub moment_at : Place → Step → Moment
-moment_at p step = record {
+abbrev pub moment_at : Says → Place → Step → Moment
+moment_at says p step = record {
   number = p.done + 1;
   step = step;
-  entries = entries_made (p.done + 1) p.ends step;
-  after = moved (p.done + 1) p.ends step;
+  entries = entries_made says (p.done + 1) p.ends step;
+  after = moved says (p.done + 1) p.ends step;
 }
 
 abbrev pub after_moment : Moment → Place
 after_moment m = record { done = m.number; ends = m.after }
 
 -- so many deliveries
-abbrev pub deliveries : ℕ → Place → List Moment
-deliveries zero p = []
-deliveries (suc count) p =
-    let m = moment_at p (next_delivery p.ends) in m ∷ deliveries count (after_moment m)
+abbrev pub deliveries : Says → ℕ → Place → List Moment
+deliveries says zero p = []
+deliveries says (suc count) p =
+    let m = moment_at says p (next_delivery p.ends) in m ∷ deliveries says count (after_moment m)
 
 -- the moments of an event: as many as it has steps
-abbrev pub moments_by : Option ℕ → Event → Place → List Moment
-moments_by (Some count) event p = deliveries count p
-moments_by None event p = moment_at p (step_of (length p.ends.own.station.links) event) ∷ []
+abbrev pub moments_by : Says → Option ℕ → Event → Place → List Moment
+moments_by says (Some count) event p = deliveries says count p
+moments_by says None event p = moment_at says p (step_of (length p.ends.own.trunk.links) event) ∷ []
 
-abbrev pub moments_of : Event → Place → List Moment
-moments_of event p = moments_by (settling event) event p
+abbrev pub moments_of : Says → Event → Place → List Moment
+moments_of says event p = moments_by says (settling event) event p
 
 abbrev pub place_after : Place → List Moment → Place
 place_after p [] = p
 place_after p (m ∷ ms) = place_after (after_moment m) ms
 
-abbrev pub run_from : Place → List Event → List Moment
-run_from p [] = []
-run_from p (event ∷ events) = let ms = moments_of event p in ms ++ run_from (place_after p ms) events
+abbrev pub run_from : Says → Place → List Event → List Moment
+run_from says p [] = []
+run_from says p (event ∷ events) = let ms = moments_of says event p in ms ++ run_from says (place_after p ms) events
 
 abbrev pub place_begun : Station → Station → Place
 place_begun own other = record { done = 0; ends = ends_begun own other }
 
--- the run of these events from the beginning of these stations: every step with the two ends after it
-abbrev pub run_of : Station → Station → List Event → List Moment
-run_of own other events = run_from (place_begun own other) events
+-- The run of these events from the beginning of these stations, for what the policies answer: every step with the two ends after
+-- it.
+abbrev pub run_of : Says → Station → Station → List Event → List Moment
+run_of says own other events = run_from says (place_begun own other) events
 
 -- what is reported of a step
-abbrev pub shown_at : ℕ → Ends → Step → List ℕ
-shown_at k e Reports = told_block k e
-shown_at k e (Happens at l what) = []
-shown_at k e (Delivers at l) = []
-shown_at k e (Loses at l place) = []
-shown_at k e (Reboots at) = []
-shown_at k e Rests = []
+abbrev pub shown_at : ℕ → List Entry → Ends → Step → List ℕ
+shown_at k entries e Reports = told_block k e
+shown_at k entries e (Asks at l what) = ask_line_if k at what (answer_in entries)
+shown_at k entries e (Happens at l what) = []
+shown_at k entries e (Delivers at l) = []
+shown_at k entries e (Tells at l status) = []
+shown_at k entries e (Tries at l) = []
+shown_at k entries e (Loses at l place) = []
+shown_at k entries e (Reboots at) = []
+shown_at k entries e Rests = []
 
 abbrev pub shown : Moment → List ℕ
-shown m = shown_at m.number m.after m.step
+shown m = shown_at m.number m.entries m.after m.step
 
 abbrev pub report : List Moment → List ℕ
 report [] = []
@@ -101,8 +108,8 @@ before_refusal [] = []
 before_refusal (m ∷ ms) = kept_with m (outstanding_in m.after) (before_refusal ms)
 
 -- what a replay reports: the steps before the first that is refused
-abbrev pub report_of : Station → Station → List Event → List ℕ
-report_of own other events = report (before_refusal (run_of own other events))
+abbrev pub report_of : Says → Station → Station → List Event → List ℕ
+report_of says own other events = report (before_refusal (run_of says own other events))
 
 -- two Opened ends of a protocol agree, on each link
 abbrev pub AgreeEverywhere : Ends → Type 0
@@ -113,6 +120,6 @@ abbrev pub AgreeThroughout : List Moment → Type 0
 AgreeThroughout ms = All (λ m. AgreeEverywhere m.after) ms
 
 -- and so they do from the start of the run of these events up to the first step that is refused
-pub record AgreesInRun (own other : Station) (events : List Event) : Type 0 where
+pub record AgreesInRun (says : Says) (own other : Station) (events : List Event) : Type 0 where
   pub first : AgreeEverywhere (ends_begun own other)
-  pub each : AgreeThroughout (before_refusal (run_of own other events))
+  pub each : AgreeThroughout (before_refusal (run_of says own other events))

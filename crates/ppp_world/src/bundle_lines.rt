@@ -6,44 +6,53 @@ ghost use Rattle.hex.specs.Hex.{encode_lower};
 ghost use Rattle.ppp_lcp.specs.LcpGrant.{disc_seen};
 ghost use Rattle.ppp_bundle.specs.BundleTable.{IsBundleOf, IsLinkOf};
 ghost use Rattle.ppp_bundle.specs.declared.limits.TheConstants.{MOST_LINKS};
-ghost use Rattle.ppp_world.specs.BundleLines.{bundle_line, bundle_lines, bundle_links, is_first_of, is_in, line_at, link_in, link_text, peer_text, set_text};
+ghost use Rattle.ppp_world.specs.BundleLines.{bundle_line, bundle_lines, bundle_links, is_first_of, is_in, line_at, link_in, link_text, peer_text, set_text, wait_text};
 
+use crate::ask_line::AskText;
 use ppp_bundle::{BundleTable, MOST_LINKS};
 use ppp_memory::Memory;
 use ppp_packet::Disc;
 use ppp_script::End;
+use ppp_station::{BapAsk, Policy, Station};
 use ppp_text::HexText;
 use std::fmt;
 
 /// Writes the lines of an end's bundles, each by its first link.
-pub(crate) fn write_bundles(
+pub(crate) fn write_bundles<F: Policy>(
     report: &mut String,
     end: End,
-    bundles: &BundleTable,
+    station: &Station<F>,
 ) -> Result<(), Memory>
     ensures { OnOk result (string_bytes report.new
-        ≡ string_bytes report.old ++ bundle_lines end bundles.now) }
+        ≡ string_bytes report.old ++ bundle_lines end station.now.station.trunk.bundles station.now.station.requests) }
 {
-    for i in 0..bundles.limits().links {
-        write_at(report, end, i + 1, bundles)?;
+    for i in 0..station.bundles().limits().links {
+        write_at(report, end, i + 1, station)?;
     }
     Ok(())
 }
 
 /// Writes the line of a bundle at its first link.
 #[tactic(auto, unfolding(crate::specs::BundleLines::line_at))]
-fn write_at(report: &mut String, end: End, link: u8, bundles: &BundleTable) -> Result<(), Memory>
-    requires link { IsLinkOf bundles.now link }
+fn write_at<F: Policy>(
+    report: &mut String,
+    end: End,
+    link: u8,
+    station: &Station<F>,
+) -> Result<(), Memory>
+    requires link { IsLinkOf station.now.station.trunk.bundles link }
     requires most { link ≤ MOST_LINKS }
     ensures { OnOk result (string_bytes report.new
-        ≡ string_bytes report.old ++ line_at end link bundles.now) }
+        ≡ string_bytes report.old ++ line_at end link station.now.station.trunk.bundles station.now.station.requests) }
 {
+    let bundles = station.bundles();
     match bundles.bundle_of(link) {
         Some(bundle) if is_first_of(link, bundles.joined(bundle)) => {
             let line = BundleLine {
                 end,
                 bundle,
                 bundles,
+                waiting: station.waiting(bundle),
             };
             write!(report, "{line}").map_err(|_| Memory)
         }
@@ -75,11 +84,12 @@ struct BundleLine<'a> {
     end: End,
     bundle: u8,
     bundles: &'a BundleTable,
+    waiting: Option<BapAsk>,
     ghost of: { IsBundleOf bundles.now bundle },
 }
 
 impl fmt::Display for BundleLine<'_> {
-    ghost output = { λ l. Some (bundle_line l.end l.bundle l.bundles.now) };
+    ghost output = { λ l. Some (bundle_line l.end l.bundle l.bundles.now l.waiting) };
 
     #[tactic(auto, unfolding(crate::specs::BundleLines::bundle_line))]
     fn fmt<W: fmt::Write>(&self, f: &mut fmt::Formatter<W>) -> fmt::Result {
@@ -92,7 +102,8 @@ impl fmt::Display for BundleLine<'_> {
             bundle: self.bundle,
             bundles: self.bundles,
         };
-        write!(f, "{end} bundle {peer} {links} waiting -\n")
+        let waiting = WaitText(self.waiting);
+        write!(f, "{end} bundle {peer} {links} waiting {waiting}\n")
     }
 }
 
@@ -224,6 +235,24 @@ impl fmt::Display for OneLink {
         match self.link {
             None => f.write_str("-"),
             Some(link) => write!(f, "{link}"),
+        }
+    }
+}
+
+/// What a request asks that waits.
+#[derive(Clone, Copy)]
+struct WaitText(Option<BapAsk>);
+
+impl fmt::Display for WaitText {
+    ghost output = { λ w. Some (wait_text w.0) };
+
+    fn fmt<W: fmt::Write>(&self, f: &mut fmt::Formatter<W>) -> fmt::Result {
+        match self.0 {
+            None => write!(f, "-"),
+            Some(ask) => {
+                let ask = AskText(ask);
+                write!(f, "{ask}")
+            }
         }
     }
 }

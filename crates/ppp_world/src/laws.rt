@@ -21,7 +21,7 @@ ghost use Rattle.ppp_world.specs.Agreement.{passes, rules_of, AgreeBy, AgreesOn,
 ghost use Rattle.ppp_world.specs.Decided.{SettingsDecide};
 ghost use Rattle.ppp_world.specs.Difference.{Difference, BothHaveNumbers, OneFavoured};
 ghost use Rattle.ppp_world.specs.Replay.{IsReplay};
-ghost use Rattle.ppp_world.specs.SameControl.{AreStations, SameControl};
+ghost use Rattle.ppp_world.specs.SameControl.{AreTrunks, SameControl};
 ghost use Rattle.ppp_world.specs.declared.refusal.Refusal.{Refusal};
 
 use ppp_auto::OptionTable;
@@ -85,5 +85,5 @@ pub fn decided()
 /// LCP's two ends agree on each link where both are Opened. [`World::step`](crate::World::step) keeps that in each state of a
 /// run.
 pub fn same_control()
-    ensures { (e : Ends) → AreStations e → ((l : ℕ) → AgreesOn l Lcp e) → SameControl e }
+    ensures { (e : Ends) → AreTrunks e → ((l : ℕ) → AgreesOn l Lcp e) → SameControl e }
 {}

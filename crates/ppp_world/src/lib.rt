@@ -12,6 +12,7 @@
 #![tactic(auto)]
 
 mod agreement;
+mod ask_line;
 mod bundle_lines;
 pub mod laws;
 mod outstanding;

@@ -5,6 +5,7 @@ ghost use Rattle.ppp_world.specs.Refusal.{outstanding_text, protocol_text, span_
 
 use ppp_packet::Proto;
 use ppp_script::End;
+use ppp_trunk::BAP;
 use std::fmt;
 
 /// The protocols in order.
@@ -17,7 +18,7 @@ pub(crate) const PROTOCOLS: [Proto; 6] = [
     Proto::Bacp,
 ];
 
-/// An end's Configure-Requests of which something is under way span more than 255 ordinals. It prints as
+/// An end's requests of which something is under way span more than 255 ordinals: Configure-Requests, or what BAP asks and tells. It prints as
 /// `end E link L P sent S oldest O`, with the protocol's name as P.
 #[derive(Clone, Copy, Debug, PartialEq, Eq)]
 pub struct Outstanding {
@@ -82,6 +83,9 @@ impl fmt::Display for Protocol {
     ghost output = { λ p. Some (protocol_text p.0) };
 
     fn fmt<W: fmt::Write>(&self, f: &mut fmt::Formatter<W>) -> fmt::Result {
+        if self.0 == BAP {
+            return write!(f, "bap");
+        }
         match Proto::try_from(self.0) {
             Ok(proto) => write!(f, "{proto}"),
             Err(_) => write!(f, "{}", self.0),

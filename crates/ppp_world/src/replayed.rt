@@ -5,6 +5,7 @@ ghost use Rattle.ppp_conf.specs.Config.{config_seen};
 ghost use Rattle.ppp_script.specs.declared.script.TheConstants.{MOST_STEPS};
 ghost use Rattle.ppp_world.specs.Refusal.{refusal_in};
 ghost use Rattle.ppp_world.specs.Replay.{IsReplay};
+ghost use Rattle.ppp_station.specs.Shipped.{IsShippedAs};
 
 use crate::refusal::Refusal;
 use crate::world::World;
@@ -12,6 +13,7 @@ use crate::world_fault::WorldFault;
 use ppp_conf::Config;
 use ppp_memory::Memory;
 use ppp_script::{Event, Script};
+use ppp_station::{CallAsk, Policy};
 use std::alloc::Global;
 
 /// What a replay comes to: the report of the steps that were done, and the first step that is refused, if there is one.
@@ -23,13 +25,39 @@ pub struct Replayed {
     pub refused: Option<Refusal>,
 }
 
-/// Replays a script with these settings, up to the first step that is refused. In every state of its run two Opened ends
+/// Replays a script with these settings, up to the first step that is refused. Each end's policy lets its peer have another link
+/// exactly where that is no faster than the settings' `max_speed`. In every state of its run two Opened ends
 /// of a protocol agree, on each link.
 pub fn replay(alloc: Global, config: &Config, script: &Script<Event>) -> Result<Replayed, Memory>
     ensures { IfOk result
         (λ r. IsReplay (config_seen config.now) script.now r.report.items r.refused) }
 {
-    let mut world = World::new(alloc, config)?;
+    let (speed_a, speed_b) = (config.a.max_speed, config.b.max_speed);
+    replay_with(
+        alloc,
+        config,
+        script,
+        |call: &CallAsk| call.speed <= speed_a,
+        |call: &CallAsk| call.speed <= speed_b,
+    )
+}
+
+/// Replays a script with these policies, which are those that come with the program.
+fn replay_with<F: Policy + Drop, G: Policy + Drop>(
+    alloc: Global,
+    config: &Config,
+    script: &Script<Event>,
+    policy_a: F,
+    policy_b: G,
+) -> Result<Replayed, Memory>
+    requires a { F.may policy_a }
+    requires b { G.may policy_b }
+    requires shipped_a { IsShippedAs (F.says policy_a) config.now.a.max_speed }
+    requires shipped_b { IsShippedAs (G.says policy_b) config.now.b.max_speed }
+    ensures { IfOk result
+        (λ r. IsReplay (config_seen config.now) script.now r.report.items r.refused) }
+{
+    let mut world = World::new(alloc, config, policy_a, policy_b)?;
     for i in 0..script.count() {
         match world.step(script.at(i)) {
             Ok(()) => {}
@@ -43,10 +71,13 @@ pub fn replay(alloc: Global, config: &Config, script: &Script<Event>) -> Result<
 }
 
 /// What a replay comes to that a world ended by refusing a step.
-fn stopped(world: World, fault: WorldFault) -> Result<Replayed, Memory>
-    requires { world.steps ≤ MOST_STEPS }
-    ensures report { IfOk result (λ replayed. replayed.report.items ≡ world.report) }
-    ensures refused { IfOk result (λ r. r.refused ≡ refusal_in (world.steps + 1) fault) }
+fn stopped<F: Policy + Drop, G: Policy + Drop>(
+    world: World<F, G>,
+    fault: WorldFault,
+) -> Result<Replayed, Memory>
+    requires { world.world.steps ≤ MOST_STEPS }
+    ensures report { IfOk result (λ replayed. replayed.report.items ≡ world.world.report) }
+    ensures refused { IfOk result (λ r. r.refused ≡ refusal_in (world.world.steps + 1) fault) }
     ensures some { IfOk result (λ replayed. IsSome replayed.refused) }
 {
     let step = world.steps() + 1;

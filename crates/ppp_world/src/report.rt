@@ -3,7 +3,7 @@
 ghost use Rattle.std.specs.Prelude.{◌≡◌, ◌++◌, length, OnOk, Some, is_some, option_map, ◌||◌};
 ghost use Rattle.std.specs.String.{string_bytes};
 ghost use Rattle.ppp_link.specs.Automata.{auto_at};
-ghost use Rattle.ppp_station.specs.Station.{IsOfLink};
+ghost use Rattle.ppp_trunk.specs.Trunk.{IsOfLink};
 ghost use Rattle.ppp_world.specs.Agreement.{opened_on};
 ghost use Rattle.ppp_world.specs.Report.{agree_text, list_text, both_states, granted_text, line, line_on, link_lines, links_block, show_block, state_text, terms_text};
 
@@ -15,28 +15,29 @@ use ppp_link::Link;
 use ppp_memory::Memory;
 use ppp_packet::{OptList, Proto};
 use ppp_script::End;
-use ppp_station::Station;
+use ppp_station::{Policy, Station};
 use ppp_text::HexText;
+use ppp_trunk::Trunk;
 use std::fmt;
 
 /// Writes the block of a `show` at a step, of two ends with the same number of links.
-pub(crate) fn write_show(
+pub(crate) fn write_show<F: Policy, G: Policy>(
     report: &mut String,
     step: u32,
-    a: &Station,
-    b: &Station,
+    a: &Station<F>,
+    b: &Station<G>,
 ) -> Result<(), Memory>
-    requires { length a.now.links ≡ length b.now.links }
+    requires { length a.now.station.trunk.links ≡ length b.now.station.trunk.links }
     ensures { OnOk result (string_bytes report.new
-        ≡ string_bytes report.old ++ show_block step a.now b.now) }
+        ≡ string_bytes report.old ++ show_block step a.now.station b.now.station) }
 {
-    write_links(report, step, a, b)?;
-    write_bundles(report, End::A, a.bundles())?;
-    write_bundles(report, End::B, b.bundles())
+    write_links(report, step, a.trunk(), b.trunk())?;
+    write_bundles(report, End::A, a)?;
+    write_bundles(report, End::B, b)
 }
 
 /// Writes what is said of the links.
-fn write_links(report: &mut String, step: u32, a: &Station, b: &Station) -> Result<(), Memory>
+fn write_links(report: &mut String, step: u32, a: &Trunk, b: &Trunk) -> Result<(), Memory>
     requires { length a.now.links ≡ length b.now.links }
     ensures { OnOk result (string_bytes report.new ≡ string_bytes report.old
         ++ links_block (λ m p. opened_on m p a.now.links b.now.links) step a.now b.now) }
@@ -49,7 +50,7 @@ fn write_links(report: &mut String, step: u32, a: &Station, b: &Station) -> Resu
 }
 
 /// Writes the lines of a link.
-fn write_link(report: &mut String, link: u8, a: &Station, b: &Station) -> Result<(), Memory>
+fn write_link(report: &mut String, link: u8, a: &Trunk, b: &Trunk) -> Result<(), Memory>
     requires of_a { IsOfLink (length a.now.links) link }
     requires of_b { IsOfLink (length b.now.links) link }
     ensures { OnOk result (string_bytes report.new ≡ string_bytes report.old
@@ -66,8 +67,8 @@ fn write_proto(
     report: &mut String,
     link: u8,
     proto: Proto,
-    a: &Station,
-    b: &Station,
+    a: &Trunk,
+    b: &Trunk,
 ) -> Result<(), Memory>
     requires of_a { IsOfLink (length a.now.links) link }
     requires of_b { IsOfLink (length b.now.links) link }

@@ -1,9 +1,9 @@
 //! Where a span is too wide.
 
-ghost use Rattle.std.specs.Prelude.{◌≡◌, false, length};
-ghost use Rattle.ppp_station.specs.Station.{IsOfLink};
-ghost use Rattle.ppp_world.specs.Ordinals.{AreOrdinals, AreOrdinalsFor, AreOrdinalsOf, MayWiden, NoneRose, QuietElsewhere, WidensWhere};
-ghost use Rattle.ppp_world.specs.Outstanding.{ends_of, outstanding_from, outstanding_in, outstanding_on, outstanding_on_link};
+ghost use Rattle.std.specs.Prelude.{◌≡◌, ◌≤◌, false, length};
+ghost use Rattle.ppp_trunk.specs.Trunk.{IsOfLink};
+ghost use Rattle.ppp_world.specs.Ordinals.{AreOrdinals, AreOrdinalsFor, AreOrdinalsOf, MayWiden, NoneRose, QuietElsewhere, QuietEverywhere, WidensWhere};
+ghost use Rattle.ppp_world.specs.Outstanding.{calls_outstanding, control_outstanding, ends_of, if_on_link, outstanding_from, outstanding_in, outstanding_on};
 
 use crate::outstanding::{Outstanding, PROTOCOLS};
 use crate::step::Step;
@@ -11,6 +11,8 @@ use crate::two_ends::TwoEnds;
 use ppp_packet::Proto;
 use ppp_party::Party;
 use ppp_script::End;
+use ppp_station::Policy;
+use ppp_trunk::BAP;
 
 /// The widest span: an Identifier of 8 bits tells that many requests apart.
 const WIDEST: u64 = 255;
@@ -40,9 +42,9 @@ impl LinkOrdinals {
     }
 
     /// Those of an end on a link.
-    fn on(party: &Party, link: u8) -> LinkOrdinals
-        requires { IsOfLink (length party.now.station.links) link }
-        ensures { AreOrdinals link party.now result }
+    fn on<F: Policy>(party: &Party<F>, link: u8) -> LinkOrdinals
+        requires { IsOfLink (length party.now.party.trunk.links) link }
+        ensures { AreOrdinals link party.now.party result }
     {
         LinkOrdinals {
             lcp: party.sent(link, Proto::Lcp),
@@ -55,9 +57,9 @@ impl LinkOrdinals {
     }
 
     /// Whether one of an end's on a link is higher.
-    fn rose(&self, party: &Party, link: u8) -> bool
-        requires { IsOfLink (length party.now.station.links) link }
-        ensures { result ≡ false → NoneRose link party.now self.now }
+    fn rose<F: Policy>(&self, party: &Party<F>, link: u8) -> bool
+        requires { IsOfLink (length party.now.party.trunk.links) link }
+        ensures { result ≡ false → NoneRose link party.now.party self.now }
     {
         self.lcp < party.sent(link, Proto::Lcp)
             || self.ip < party.sent(link, Proto::Ip)
@@ -76,8 +78,8 @@ pub(crate) struct Ordinals {
 
 impl Ordinals {
     /// Those of an end.
-    fn of(party: &Party) -> Ordinals
-        ensures { AreOrdinalsOf party.now result }
+    fn of<F: Policy>(party: &Party<F>) -> Ordinals
+        ensures { AreOrdinalsOf party.now.party result }
     {
         let mut links = [LinkOrdinals::zero(); 16];
         for i in 0..party.station().links() {
@@ -87,11 +89,18 @@ impl Ordinals {
     }
 
     /// Those that a step may raise: of its end, if it is of one.
-    pub(crate) fn before(ends: &TwoEnds, step: Step) -> Ordinals
-        ensures { AreOrdinalsFor step ends.now result }
+    pub(crate) fn before<F: Policy, G: Policy>(ends: &TwoEnds<F, G>, step: Step) -> Ordinals
+        ensures { AreOrdinalsFor step ends.now.ends result }
     {
         match step {
-            Step::Happens(at, _, _) | Step::Delivers(at, _) => Ordinals::of(ends.party(at)),
+            Step::Happens(at, _, _)
+            | Step::Delivers(at, _)
+            | Step::Asks(at, _, _)
+            | Step::Tells(at, _, _)
+            | Step::Tries(at, _) => match at {
+                End::A => Ordinals::of(ends.a()),
+                End::B => Ordinals::of(ends.b()),
+            },
             Step::Loses(_, _, _) | Step::Reboots(_) | Step::Reports | Step::Rests => Ordinals {
                 links: [LinkOrdinals::zero(); 16],
             },
@@ -100,27 +109,55 @@ impl Ordinals {
 }
 
 /// The first span that is too wide after a step, before which those were the ordinals: end a's before end b's, then of the
-/// least link, then of the first protocol. It is looked for only where the step can have made one wider.
-pub(crate) fn wider_since(ends: &TwoEnds, step: Step, before: &Ordinals) -> Option<Outstanding>
-    requires alike { length ends.now.other.station.links ≡ length ends.now.own.station.links }
-    requires widens { MayWiden step before.now ends.now }
-    ensures { result ≡ outstanding_in ends.now }
+/// least link, then of the first protocol, and BAP's behind them. A control protocol's is looked for only where the step can have
+/// made one wider.
+pub(crate) fn wider_since<F: Policy, G: Policy>(
+    ends: &TwoEnds<F, G>,
+    step: Step,
+    before: &Ordinals,
+) -> Option<Outstanding>
+    requires some { 1 ≤ length ends.now.ends.own.trunk.links }
+    requires alike { length ends.now.ends.other.trunk.links ≡ length ends.now.ends.own.trunk.links }
+    requires widens { MayWiden step before.now ends.now.ends }
+    ensures { result ≡ outstanding_in ends.now.ends }
 {
     match step {
-        Step::Happens(at, _, _) | Step::Delivers(at, _) => {
-            wider_where(ends, ends.party(at), before)
-        }
+        Step::Happens(at, _, _)
+        | Step::Delivers(at, _)
+        | Step::Asks(at, _, _)
+        | Step::Tells(at, _, _)
+        | Step::Tries(at, _) => match at {
+            End::A => wider_where(ends, ends.a(), before),
+            End::B => wider_where(ends, ends.b(), before),
+        },
         Step::Reboots(_) => wider_anywhere(ends),
-        Step::Loses(_, _, _) | Step::Reports | Step::Rests => None,
+        Step::Loses(_, _, _) | Step::Reports | Step::Rests => wider_calls(ends),
     }
 }
 
-/// The first span that is too wide, on links where an ordinal of that end rose.
-fn wider_where(ends: &TwoEnds, party: &Party, before: &Ordinals) -> Option<Outstanding>
-    requires links { length party.now.station.links ≡ length ends.now.own.station.links }
-    requires alike { length ends.now.other.station.links ≡ length ends.now.own.station.links }
-    requires widens { WidensWhere party.now before.now ends.now }
-    ensures { result ≡ outstanding_in ends.now }
+/// The first span of BAP that is too wide.
+fn wider_calls<F: Policy, G: Policy>(ends: &TwoEnds<F, G>) -> Option<Outstanding>
+    requires some { 1 ≤ length ends.now.ends.own.trunk.links }
+    requires alike { length ends.now.ends.other.trunk.links ≡ length ends.now.ends.own.trunk.links }
+    requires quiet { QuietEverywhere ends.now.ends }
+    ensures { result ≡ outstanding_in ends.now.ends }
+{
+    match calls(End::A, ends.a(), ends.b()) {
+        Some(fault) => Some(fault),
+        None => calls(End::B, ends.b(), ends.a()),
+    }
+}
+
+/// The first span that is too wide, of a control protocol on links where an ordinal of that end rose, or of BAP.
+fn wider_where<F: Policy, G: Policy, H: Policy>(
+    ends: &TwoEnds<F, G>,
+    party: &Party<H>,
+    before: &Ordinals,
+) -> Option<Outstanding>
+    requires links { length party.now.party.trunk.links ≡ length ends.now.ends.own.trunk.links }
+    requires alike { length ends.now.ends.other.trunk.links ≡ length ends.now.ends.own.trunk.links }
+    requires widens { WidensWhere party.now.party before.now ends.now.ends }
+    ensures { result ≡ outstanding_in ends.now.ends }
 {
     match wider_among_risen(End::A, ends.a(), ends.b(), party, before) {
         Some(fault) => Some(fault),
@@ -128,33 +165,37 @@ fn wider_where(ends: &TwoEnds, party: &Party, before: &Ordinals) -> Option<Outst
     }
 }
 
-/// The first span of an end that is too wide, of the links where an ordinal of the other party rose.
-fn wider_among_risen(
+/// The first span of an end that is too wide, of the links where an ordinal of the other party rose, or of BAP.
+fn wider_among_risen<F: Policy, G: Policy, H: Policy>(
     name: End,
-    own: &Party,
-    other: &Party,
-    party: &Party,
+    own: &Party<F>,
+    other: &Party<G>,
+    party: &Party<H>,
     before: &Ordinals,
 ) -> Option<Outstanding>
-    requires alike { length other.now.station.links ≡ length own.now.station.links }
-    requires links { length party.now.station.links ≡ length own.now.station.links }
-    requires quiet { QuietElsewhere name party.now before.now (ends_of own.now other.now) }
-    ensures { result ≡ outstanding_from name (length own.now.station.links) 1 (ends_of own.now other.now) }
+    requires alike { length other.now.party.trunk.links ≡ length own.now.party.trunk.links }
+    requires links { length party.now.party.trunk.links ≡ length own.now.party.trunk.links }
+    requires quiet { QuietElsewhere name party.now.party before.now (ends_of own.now.party other.now.party) }
+    ensures { result ≡ outstanding_from name (length own.now.party.trunk.links) 1 (ends_of own.now.party other.now.party) }
 {
+    let calls = calls(name, own, other);
     for i in 0..own.station().links() {
         if before.links[usize::from(i)].rose(party, i + 1) {
             if let Some(fault) = wider_at(name, own, other, i + 1) {
                 return Some(fault);
             }
         }
+        if let Some(fault) = on_link(i + 1, calls) {
+            return Some(fault);
+        }
     }
     None
 }
 
 /// The first span that is too wide on any link.
-fn wider_anywhere(ends: &TwoEnds) -> Option<Outstanding>
-    requires { length ends.now.other.station.links ≡ length ends.now.own.station.links }
-    ensures { result ≡ outstanding_in ends.now }
+fn wider_anywhere<F: Policy, G: Policy>(ends: &TwoEnds<F, G>) -> Option<Outstanding>
+    requires { length ends.now.ends.other.trunk.links ≡ length ends.now.ends.own.trunk.links }
+    ensures { result ≡ outstanding_in ends.now.ends }
 {
     match wider_among(End::A, ends.a(), ends.b()) {
         Some(fault) => Some(fault),
@@ -163,23 +204,36 @@ fn wider_anywhere(ends: &TwoEnds) -> Option<Outstanding>
 }
 
 /// The first span of an end that is too wide, of all its links.
-fn wider_among(name: End, own: &Party, other: &Party) -> Option<Outstanding>
-    requires { length other.now.station.links ≡ length own.now.station.links }
-    ensures { result ≡ outstanding_from name (length own.now.station.links) 1 (ends_of own.now other.now) }
+fn wider_among<F: Policy, G: Policy>(
+    name: End,
+    own: &Party<F>,
+    other: &Party<G>,
+) -> Option<Outstanding>
+    requires { length other.now.party.trunk.links ≡ length own.now.party.trunk.links }
+    ensures { result ≡ outstanding_from name (length own.now.party.trunk.links) 1 (ends_of own.now.party other.now.party) }
 {
+    let calls = calls(name, own, other);
     for i in 0..own.station().links() {
         if let Some(fault) = wider_at(name, own, other, i + 1) {
+            return Some(fault);
+        }
+        if let Some(fault) = on_link(i + 1, calls) {
             return Some(fault);
         }
     }
     None
 }
 
-/// The first span of an end that is too wide on a link.
-fn wider_at(name: End, own: &Party, other: &Party, link: u8) -> Option<Outstanding>
-    requires own { IsOfLink (length own.now.station.links) link }
-    requires other { IsOfLink (length other.now.station.links) link }
-    ensures { result ≡ outstanding_on_link name link (ends_of own.now other.now) }
+/// The first span of an end's control protocols that is too wide on a link.
+fn wider_at<F: Policy, G: Policy>(
+    name: End,
+    own: &Party<F>,
+    other: &Party<G>,
+    link: u8,
+) -> Option<Outstanding>
+    requires own { IsOfLink (length own.now.party.trunk.links) link }
+    requires other { IsOfLink (length other.now.party.trunk.links) link }
+    ensures { result ≡ control_outstanding name link (ends_of own.now.party other.now.party) }
 {
     for i in 0..PROTOCOLS.len() {
         if let Some(fault) = wider(name, own, other, link, PROTOCOLS[i]) {
@@ -190,10 +244,16 @@ fn wider_at(name: End, own: &Party, other: &Party, link: u8) -> Option<Outstandi
 }
 
 /// An end's span of a protocol on a link, if it is too wide.
-fn wider(name: End, own: &Party, other: &Party, link: u8, proto: Proto) -> Option<Outstanding>
-    requires own { IsOfLink (length own.now.station.links) link }
-    requires other { IsOfLink (length other.now.station.links) link }
-    ensures { result ≡ outstanding_on name link (ends_of own.now other.now) proto }
+fn wider<F: Policy, G: Policy>(
+    name: End,
+    own: &Party<F>,
+    other: &Party<G>,
+    link: u8,
+    proto: Proto,
+) -> Option<Outstanding>
+    requires own { IsOfLink (length own.now.party.trunk.links) link }
+    requires other { IsOfLink (length other.now.party.trunk.links) link }
+    ensures { result ≡ outstanding_on name link (ends_of own.now.party other.now.party) proto }
 {
     let sent = own.sent(link, proto);
     if sent <= WIDEST {
@@ -210,4 +270,36 @@ fn wider(name: End, own: &Party, other: &Party, link: u8, proto: Proto) -> Optio
         sent,
         oldest,
     })
+}
+
+/// An end's span of BAP, if it is too wide.
+fn calls<F: Policy, G: Policy>(name: End, own: &Party<F>, other: &Party<G>) -> Option<Outstanding>
+    requires { length other.now.party.trunk.links ≡ length own.now.party.trunk.links }
+    ensures { result ≡ calls_outstanding name (ends_of own.now.party other.now.party) }
+{
+    let sent = own.drawn();
+    if sent <= WIDEST {
+        return None;
+    }
+    let oldest = own.oldest_call(other);
+    if sent.saturating_sub(oldest.mark) <= WIDEST {
+        return None;
+    }
+    Some(Outstanding {
+        end: name,
+        link: oldest.link,
+        protocol: BAP,
+        sent,
+        oldest: oldest.mark,
+    })
+}
+
+/// A span that is too wide, if it is on that link.
+fn on_link(link: u8, fault: Option<Outstanding>) -> Option<Outstanding>
+    ensures { result ≡ if_on_link link fault }
+{
+    match fault {
+        Some(fault) if fault.link == link => Some(fault),
+        _ => None,
+    }
 }

@@ -5,6 +5,7 @@ ghost use Rattle.ppp_world.specs.Step.{if_linked, settling, step_of, IsLinked};
 
 use ppp_party::Happening;
 use ppp_script::{End, Event};
+use ppp_station::BapAsk;
 
 /// One step. The number is of a link, from 1 on.
 #[derive(Clone, Copy, Debug, PartialEq, Eq)]
@@ -13,6 +14,12 @@ pub(crate) enum Step {
     Happens(End, u8, Happening),
     /// An end takes the front frame under way to it on a link.
     Delivers(End, u8),
+    /// An end asks the peer of a link's bundle (after RFC 2125).
+    Asks(End, u8, BapAsk),
+    /// An end tells the peer of a link's bundle how a call went.
+    Tells(End, u8, u8),
+    /// BAP's timer fires at the bundle whose control link that is.
+    Tries(End, u8),
     /// The frame under way to an end on a link of that place from the front, from 1 on, is lost.
     Loses(End, u8, u16),
     /// An end begins anew.
@@ -41,10 +48,21 @@ impl Step {
             Event::Timeout(end, link, proto) => {
                 happens(links, end, link, Happening::TimesOut(proto))
             }
+            Event::BapTimeout(end, link) => if_linked(links, link, Step::Tries(end, link)),
             Event::Deliver(end, link) => if_linked(links, link, Step::Delivers(end, link)),
             Event::Lose(end, link, place) => if_linked(links, link, Step::Loses(end, link, place)),
             Event::Settle(_) => Step::Rests,
             Event::Reboot(end) => Step::Reboots(end),
+            Event::Call(end, link) => if_linked(links, link, Step::Asks(end, link, BapAsk::Call)),
+            Event::Callback(end, link) => {
+                if_linked(links, link, Step::Asks(end, link, BapAsk::Callback))
+            }
+            Event::Drop(end, link) => {
+                if_linked(links, link, Step::Asks(end, link, BapAsk::Drop(link)))
+            }
+            Event::Status(end, link, status) => {
+                if_linked(links, link, Step::Tells(end, link, status))
+            }
             Event::Show => Step::Reports,
         }
     }

@@ -6,23 +6,30 @@ ghost use Rattle.ppp_station.specs.Station.{IsOfLinks};
 use crate::report::write_show;
 use ppp_conf::{EndConfig, read_config};
 use ppp_packet::Proto;
-use ppp_station::{Station, StationEntry, StationEvent, StationOut};
+use ppp_station::{CallAsk, Policy, Station, StationEntry, StationEvent, StationOut};
 use std::alloc::Global;
 use std::mem;
 use std::test::Fail;
 
 /// One end, the word that it takes, what its last event made, and the octets on the line to it of its first link.
 #[derive(Drop)]
-struct End {
-    station: Station,
+struct End<F: Policy> {
+    station: Station<F>,
     word: u64,
     out: StationOut,
     line: Vec<u8>,
 }
 
-fn make_end(alloc: Global, config: &EndConfig, word: u64) -> Result<End, Fail> {
+fn make_end<F: Policy + Drop>(
+    alloc: Global,
+    config: &EndConfig,
+    policy: F,
+    word: u64,
+) -> Result<End<F>, Fail>
+    requires { F.may policy }
+{
     Ok(End {
-        station: Station::new(alloc, config)?,
+        station: Station::new(alloc, config, policy)?,
         word,
         out: StationOut::new(alloc)?,
         line: Vec::new(alloc),
@@ -40,12 +47,16 @@ fn is_of(event: StationEvent<'_>, links: u8) -> bool
         | StationEvent::AdminClose(link, _)
         | StationEvent::Timeout(link, _)
         | StationEvent::Bytes(link, _) => 1 <= link && link <= links,
-        StationEvent::Reset => true,
+        _ => false,
     }
 }
 
 /// Does an event of an end, if it is of one of its links, and puts what it sends on a line.
-fn happen(end: &mut End, event: StationEvent<'_>, line: &mut Vec<u8>) -> Result<(), Fail> {
+fn happen<F: Policy>(
+    end: &mut End<F>,
+    event: StationEvent<'_>,
+    line: &mut Vec<u8>,
+) -> Result<(), Fail> {
     if is_of(event, end.station.links()) {
         end.station.event(event, end.word, &mut end.out);
     }
@@ -58,7 +69,7 @@ fn happen(end: &mut End, event: StationEvent<'_>, line: &mut Vec<u8>) -> Result<
 }
 
 /// An end takes what is on its line, frame by frame.
-fn take_line(alloc: Global, end: &mut End, line: &mut Vec<u8>) -> Result<(), Fail> {
+fn take_line<F: Policy>(alloc: Global, end: &mut End<F>, line: &mut Vec<u8>) -> Result<(), Fail> {
     let octets = mem::replace(&mut end.line, Vec::new(alloc));
     let mut rest = octets.as_slice();
     for _ in 0..octets.len() {
@@ -72,7 +83,12 @@ fn take_line(alloc: Global, end: &mut End, line: &mut Vec<u8>) -> Result<(), Fai
 }
 
 /// LCP is opened at both ends of the first link, and each takes what the other sends, that often.
-fn open_lcp(alloc: Global, a: &mut End, b: &mut End, turns: u8) -> Result<(), Fail> {
+fn open_lcp<F: Policy, G: Policy>(
+    alloc: Global,
+    a: &mut End<F>,
+    b: &mut End<G>,
+    turns: u8,
+) -> Result<(), Fail> {
     for event in [StationEvent::Up(1), StationEvent::AdminOpen(1, Proto::Lcp)] {
         happen(a, event, &mut b.line)?;
         happen(b, event, &mut a.line)?;
@@ -84,8 +100,23 @@ fn open_lcp(alloc: Global, a: &mut End, b: &mut End, turns: u8) -> Result<(), Fa
     Ok(())
 }
 
-/// The block of two ends.
-fn shown(alloc: Global, step: u32, a: &End, b: &End) -> Result<String, Fail> {
+/// The block of two ends of these settings, after LCP was opened for so many turns.
+fn shown<F: Policy + Drop, G: Policy + Drop>(
+    alloc: Global,
+    settings: &str,
+    policies: (F, G),
+    turns: u8,
+    step: u32,
+) -> Result<String, Fail>
+    requires a { F.may policies.0 }
+    requires b { G.may policies.1 }
+{
+    let text = format!(in alloc; "version = 2\n{settings}")?;
+    let config = read_config(alloc, text.as_bytes())?;
+    let (policy_a, policy_b) = policies;
+    let mut a = make_end(alloc, &config.a, policy_a, 4)?;
+    let mut b = make_end(alloc, &config.b, policy_b, 9)?;
+    open_lcp(alloc, &mut a, &mut b, turns)?;
     let mut report = String::new(alloc);
     if a.station.links() == b.station.links() {
         write_show(&mut report, step, &a.station, &b.station)?;
@@ -133,12 +164,8 @@ fn each_block_has_its_lines(rt: HostRuntime) -> Result<(), Fail> {
              2 mpls Starting Starting - - - - agree -\n",
         ),
     ] {
-        let text = format!(in rt.alloc(); "version = 2\n{settings}")?;
-        let config = read_config(rt.alloc(), text.as_bytes())?;
-        let mut a = make_end(rt.alloc(), &config.a, 4)?;
-        let mut b = make_end(rt.alloc(), &config.b, 9)?;
-        open_lcp(rt.alloc(), &mut a, &mut b, turns)?;
-        let report = shown(rt.alloc(), step, &a, &b)?;
+        let policies = (|_: &CallAsk| true, |_: &CallAsk| false);
+        let report = shown(rt.alloc(), settings, policies, turns, step)?;
         assert_eq!(rt; report.as_str(), wanted, "at {wanted}");
     }
     Ok(())

@@ -1,6 +1,6 @@
 use Rattle.std.specs.String.{string_bytes}
 use Rattle.ppp_feed.proofs.FeedLemmas.{written-next}
-use Rattle.ppp_station.specs.StationOut.{entry_seen}
+use Rattle.ppp_trunk.specs.StationOut.{entry_seen}
 use Rattle.ppp_feed.proofs.fed.write_all.Goals as goal
 
 pub loop-i-preserved : goal.loop-i-preserved

@@ -1,7 +1,7 @@
 use Rattle.std.proofs.Common.{◌+◌, ◌^◌, ◌∙◌, ◌∷◌, [], add-one, arith, length, refl, subst, sym}
 use Rattle.ppp_party.specs.Counted.{AllCounted}
-use Rattle.ppp_station.specs.Moves.{IsLinked}
-use Rattle.ppp_station.specs.StationOut.{entry_seen}
+use Rattle.ppp_trunk.specs.Moves.{IsLinked}
+use Rattle.ppp_trunk.specs.StationOut.{entry_seen}
 use Rattle.ppp_party.proofs.ListLemmas.{all-at}
 use Rattle.ppp_party.proofs.SendLemmas.{all-more, noted-counted, posted-all, posted-next, posted-none}
 use Rattle.ppp_party.proofs.desk.post.Goals as goal

@@ -1,10 +1,10 @@
 use Rattle.std.proofs.Common.{◌≡◌, ◌≢◌, ◌≤◌, ◌-◌, ◌∙◌, ℕ, Bor, List, ◌∷◌, [], ap, length, length-set, refl, subst, sym}
 use Rattle.ppp_party.specs.Party.{each_noted, each_queued, room}
-use Rattle.ppp_station.specs.Moves.{IsLinked}
-use Rattle.ppp_station.specs.Station.{IsOfLink}
-use Rattle.ppp_station.specs.StationOut.{Push, entry_seen}
-use Rattle.ppp_station.specs.declared.station_out.StationEntry.{StationEntry}
-use Rattle.ppp_station.specs.declared.station_out.StationEntry.TheVariants as lent
+use Rattle.ppp_trunk.specs.Moves.{IsLinked}
+use Rattle.ppp_trunk.specs.Trunk.{IsOfLink}
+use Rattle.ppp_trunk.specs.StationOut.{Push, entry_seen}
+use Rattle.ppp_trunk.specs.declared.station_out.StationEntry.{StationEntry}
+use Rattle.ppp_trunk.specs.declared.station_out.StationEntry.TheVariants as lent
 use Rattle.ppp_party.proofs.ListLemmas.{all-set}
 use Rattle.ppp_party.proofs.ResultLemmas.{on_ok_map}
 use Rattle.ppp_party.proofs.SendLemmas.{IsNoPush, noted-nothing, noted-push, queued-nothing, queued-push}
@@ -14,6 +14,8 @@ no-push : (e : StationEntry) → ((link : ℕ) (octets : Bor (List ℕ)) → e �
 no-push (lent.Push link octets) not = absurd (not link octets refl)
 no-push (lent.Got class protocol octets) not = tt
 no-push (lent.Hang link) not = tt
+no-push (lent.Dial link) not = tt
+no-push (lent.Asked answer) not = tt
 
 pub returns-in_default : goal.returns-in_default
 returns-in_default c =

@@ -1,4 +1,4 @@
-use Rattle.ppp_party.proofs.HeldLemmas.{begins-held, happens-held, delivers-held, loses-held, reboots-held, turned-held}
+use Rattle.ppp_party.proofs.HeldLemmas.{asks-held, begins-held, delivers-held, happens-held, loses-held, reboots-held, tells-held, tries-held, turned-held}
 use Rattle.ppp_party.proofs.laws.held.Goals as goal
 
 pub returns-clause-begins : goal.returns-clause-begins
@@ -9,6 +9,15 @@ returns-clause-happens c = happens-held
 
 pub returns-clause-delivers : goal.returns-clause-delivers
 returns-clause-delivers c = delivers-held
+
+pub returns-clause-asks : goal.returns-clause-asks
+returns-clause-asks c = asks-held
+
+pub returns-clause-tells : goal.returns-clause-tells
+returns-clause-tells c = tells-held
+
+pub returns-clause-tries : goal.returns-clause-tries
+returns-clause-tries c = tries-held
 
 pub returns-clause-loses : goal.returns-clause-loses
 returns-clause-loses c = loses-held

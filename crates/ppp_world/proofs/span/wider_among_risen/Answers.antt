@@ -1,24 +1,40 @@
 use Rattle.std.proofs.Common.{◌≡◌, ◌∙◌, ◌+◌, ◌<◌, ap, length, refl, subst, sym, arith}
 use Rattle.std.specs.Prelude.{None}
 use Rattle.ppp_station.specs.Station.{Station}
-use Rattle.ppp_world.specs.Outstanding.{ends_of, outstanding_on_link}
+use Rattle.ppp_world.specs.Outstanding.{control_outstanding, ends_of, if_on_link}
 use Rattle.ppp_world.proofs.OrdinalsLemmas.{QuietBy, quiet-link}
-use Rattle.ppp_world.proofs.WidthLemmas.{found-link, next-link}
+use Rattle.ppp_world.proofs.SearchLemmas.{found-link, link-calls, link-control, link-none, next-link}
 use Rattle.ppp_world.proofs.span.wider_among_risen.Goals as goal
 use Rattle.ppp_world.proofs.span.wider_among_risen.Goals.{then-rose+in_default, else-rose}
 
 pub returns-in-Some : goal.returns-in-Some
-returns-in-Some c =
-    sym (c.loop-i.invariant.left ∙ found-link c.args.name _ c.loop-i.i (ends_of c.args.own.now c.args.other.now) c.in-Some.fault (omega (arith, c.loop-i-test.true, c.links-i-end.ensures.count, ap (λ (st : Station). length st.links) c.station.ensures)) (sym c.wider_at.ensures ∙ c.in-Some.is))
+returns-in-Some g c =
+    let e = ends_of c.args.own.now.party c.args.other.now.party in
+    let below : c.loop-i.i < length c.args.own.now.party.trunk.links = omega (arith, c.loop-i-test.true, c.links-i-end.ensures.count, ap (λ (st : Station). length st.trunk.links) c.station.ensures.station) in
+    sym (c.loop-i.invariant.left ∙ found-link c.args.name _ c.loop-i.i e c.in-Some.fault below (link-control c.args.name _ e c.in-Some.fault (sym c.wider_at.ensures ∙ c.in-Some.is)))
 
-pub loop-i-preserved : goal.loop-i-preserved
-loop-i-preserved c =
-    let e = ends_of c.args.own.now c.args.other.now in
-    let below : c.loop-i.i < length c.args.own.now.station.links = omega (arith, c.loop-i-test.true, c.links-i-end.ensures.count, ap (λ (st : Station). length st.links) c.station.ensures) in
-    let none : outstanding_on_link c.args.name (c.loop-i.i + 1) e ≡ None = elim c.if-rose.branch [
+pub returns-in-Some-on_link : goal.returns-in-Some-on_link
+returns-in-Some-on_link g c =
+    let e = ends_of c.args.own.now.party c.args.other.now.party in
+    let below : c.loop-i.i < length c.args.own.now.party.trunk.links = omega (arith, c.loop-i-test.true, c.links-i-end.ensures.count, ap (λ (st : Station). length st.trunk.links) c.station.ensures.station) in
+    let none : control_outstanding c.args.name (c.loop-i.i + 1) e ≡ None = elim c.if-rose.branch [
       | then-rose+in_default w ↦ sym w.wider_at.ensures ∙ w.in_default.is
       | else-rose w ↦
-          quiet-link c.args.name c.args.party.now c.args.before.now c.loop-i.i e c.requires.quiet below
-          (subst (QuietBy (c.loop-i.i + 1) c.args.party.now c.args.before.now.links) c.from.ensures (w.if-rose.ensures refl))
+          quiet-link c.args.name c.args.party.now.party c.args.before.now c.loop-i.i e c.requires.quiet below
+          (subst (QuietBy (c.loop-i.i + 1) c.args.party.now.party c.args.before.now.links) c.from.ensures (w.if-rose.ensures refl))
     ] in
-    record { left = c.loop-i.invariant.left ∙ next-link c.args.name _ c.loop-i.i e below none }
+    let calls = ap (if_on_link (c.loop-i.i + 1)) (sym c.calls-calls.ensures) ∙ sym c.on_link.ensures ∙ c.in-Some-on_link.is in
+    sym (c.loop-i.invariant.left ∙ found-link c.args.name _ c.loop-i.i e c.in-Some-on_link.fault below (link-calls c.args.name _ e c.in-Some-on_link.fault none calls))
+
+pub loop-i-preserved : goal.loop-i-preserved
+loop-i-preserved g c =
+    let e = ends_of c.args.own.now.party c.args.other.now.party in
+    let below : c.loop-i.i < length c.args.own.now.party.trunk.links = omega (arith, c.loop-i-test.true, c.links-i-end.ensures.count, ap (λ (st : Station). length st.trunk.links) c.station.ensures.station) in
+    let none : control_outstanding c.args.name (c.loop-i.i + 1) e ≡ None = elim c.if-rose.branch [
+      | then-rose+in_default w ↦ sym w.wider_at.ensures ∙ w.in_default.is
+      | else-rose w ↦
+          quiet-link c.args.name c.args.party.now.party c.args.before.now c.loop-i.i e c.requires.quiet below
+          (subst (QuietBy (c.loop-i.i + 1) c.args.party.now.party c.args.before.now.links) c.from.ensures (w.if-rose.ensures refl))
+    ] in
+    let calls = ap (if_on_link (c.loop-i.i + 1)) (sym c.calls-calls.ensures) ∙ sym c.on_link.ensures ∙ c.in_default-on_link.is in
+    record { left = c.loop-i.invariant.left ∙ next-link c.args.name _ c.loop-i.i e below (link-none c.args.name _ e none calls) }

@@ -1,7 +1,10 @@
-use Rattle.std.proofs.Common.{length, ◌∙◌, ap}
-use Rattle.ppp_feed.proofs.FeedLemmas.{does-count}
-use Rattle.ppp_station.specs.Station.{Station}
+use Rattle.std.specs.String.{string_bytes}
+use Rattle.ppp_feed.proofs.FeedLemmas.{happens-adds, happens-used}
 use Rattle.ppp_feed.proofs.fed.Fed.happens.Goals as goal
 
-pub returns-clause-count : goal.returns-clause-count
-returns-clause-count c = ap (λ (st : Station). length st.links) c.event.ensures.station ∙ does-count _ c.args.self.now.station c.args.word
+pub returns-clause-adds : goal.returns-clause-adds
+returns-clause-adds g c =
+    happens-adds (g.F.Policy.says c.args.self.now.station.policy) _ c.args.word _ _ _ (string_bytes c.args.self.now.text) _ _ c.event.ensures.does c.write_all.ensures
+
+pub returns-clause-used : goal.returns-clause-used
+returns-clause-used g c = happens-used (g.F.Policy.says c.args.self.now.station.policy) _ c.args.word _ _ _ _ c.event.ensures.does

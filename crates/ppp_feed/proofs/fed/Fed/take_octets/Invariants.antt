@@ -1,16 +1,20 @@
-use Rattle.std.proofs.Common.{◌≡◌, ℕ, List, ◌++◌, length}
+use Rattle.std.proofs.Common.{◌≡◌, ◌≤◌, ℕ, length}
 use Rattle.std.specs.String.{string_bytes}
-use Rattle.ppp_feed.specs.Feed.{and_more, takes}
+use Rattle.ppp_feed.specs.Feed.{takes_all}
+use Rattle.ppp_feed.proofs.FeedLemmas.{HasTaken}
+use Rattle.ppp_station.specs.Shipped.{IsShippedAs, allows_up_to}
 use Rattle.ppp_feed.proofs.fed.Fed.take_octets.Given as goal
 
--- what was written, and then what the octets left come to, is all
+-- each event uses an octet at least, so as many events as octets are enough
 abbrev pub invariant-frames : goal.invariant-frames
-invariant-frames l = record {
-  count : length l.self.station.links ≡ length l.initial.self.station.links;
-  written : List ℕ;
-  text : string_bytes l.self.text ≡ string_bytes l.initial.self.text ++ written;
-  same : takes (length l.octets) l.link l.octets l.initial.self.station l.word ≡ and_more written (takes (length l.rest) l.link l.rest l.self.station l.word);
+invariant-frames g l = record {
+  policy : l.self.station.policy ≡ l.initial.self.station.policy;
+  count : length l.self.station.station.trunk.links ≡ length l.initial.self.station.station.trunk.links;
+  fuel : ℕ;
+  few : length l.rest ≤ fuel;
+  taken : (most : ℕ) → IsShippedAs (g.F.Policy.says l.initial.self.station.policy) most →
+      HasTaken (allows_up_to most) fuel l.link l.word (takes_all (allows_up_to most) l.link l.octets l.initial.self.station.station l.word) (string_bytes l.initial.self.text) l.self.station.station (string_bytes l.self.text) l.rest;
 }
 
 abbrev pub decreases-frames : goal.decreases-frames
-decreases-frames l = length l.rest
+decreases-frames g l = length l.rest

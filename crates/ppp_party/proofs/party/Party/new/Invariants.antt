@@ -4,7 +4,7 @@ use Rattle.ppp_party.specs.Ledger.{ledgers_begun}
 use Rattle.ppp_party.proofs.party.Party.new.Given as goal
 
 abbrev pub invariant-loop : goal.invariant-loop
-invariant-loop l = record {
+invariant-loop g l = record {
   ledgers : l.ledgers.items ≡ replicate l.counter ledgers_begun;
   incoming : l.incoming.items ≡ replicate {A = List Frame} l.counter [];
 }

@@ -1,0 +1,14 @@
+use Rattle.std.proofs.Common.{add-one, arith}
+use Rattle.std.proofs.lemmas.Option.{slice_get_read}
+use Rattle.ppp_party.specs.BapSpans.{bap_request}
+use Rattle.ppp_party.proofs.QueueLemmas.{marks-next}
+use Rattle.ppp_party.proofs.queue.Queue.oldest_bap_request.Goals as goal
+
+pub loop-i-preserved : goal.loop-i-preserved
+loop-i-preserved c = record {
+  left = rw add-one (
+      marks-next bap_request c.self.inside.frames.items c.loop-i.i c.index.result.now c.loop-i.oldest _ _ _
+      (slice_get_read c.self.inside.frames.items _ c.loop-i.i c.index.result.now (omega arith) c.loop-i-test.true c.index.ensures)
+      c.lesser-oldest.ensures c.bap_request_mark.ensures c.loop-i.invariant.left
+      );
+}
