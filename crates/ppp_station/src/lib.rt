@@ -28,4 +28,6 @@ pub use station::Station;
 pub use station_event::StationEvent;
 
 #[cfg(test)]
+mod pair;
+#[cfg(test)]
 mod tests;
