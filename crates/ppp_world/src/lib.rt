@@ -31,6 +31,3 @@ pub use refusal::Refusal;
 pub use replayed::{Replayed, replay};
 pub use world::World;
 pub use world_fault::WorldFault;
-
-#[cfg(test)]
-mod tests;
