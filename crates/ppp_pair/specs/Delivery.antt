@@ -1,0 +1,62 @@
+-- The same two ends over links that give each packet once at most: a packet that is taken is no longer under way, and one may be
+-- lost. This project's own.
+use Rattle.std.specs.Prelude.{◌≡◌, ℕ, Bool, not, if◌then◌else◌, List, [], ◌∷◌, Option}
+use Rattle.ppp_bap.specs.declared.bap_ask.BapAsk.{BapAsk}
+use Rattle.ppp_pair.specs.Pair.{Asks, AsksAgain, Deed, Draws, End, EndsWait, Event, Happening, Joins, Leaves, Packet, Pair, Reboots, Request, Response, Side, TakesRequest, TakesResponse, Waiting, at_first, is_coming, run, same_packet, seen, start}
+
+-- the packets without the first that is the same
+abbrev pub without_packet : Packet → List Packet → List Packet
+without_packet p [] = []
+without_packet p (q ∷ qs) = if same_packet p q then qs else q ∷ without_packet p qs
+
+abbrev pub loses : Packet → Pair → Pair
+loses p s = record s { a = record s.a { coming = without_packet p s.a.coming } }
+
+-- a packet to the first end is taken, and is under way no longer
+abbrev pub takes_once : Packet → Happening → Pair → Pair
+takes_once p what s = if is_coming p s.a then loses p (at_first s what) else s
+
+-- an event of the two ends, or the loss of a packet to the end of the side
+pub data Passing : Type 0 where
+  Happens : (what : Happening) → Passing
+  Loses : (packet : Packet) → Passing
+
+pub record Passed : Type 0 where
+  pub side : Side
+  pub what : Passing
+
+abbrev pub at_first_once : Pair → Happening → Pair
+at_first_once s (TakesRequest n what code) = takes_once (Request n what) (TakesRequest n what code) s
+at_first_once s (TakesResponse n t code) = takes_once (Response n t code) (TakesResponse n t code) s
+at_first_once s what = at_first s what
+
+abbrev pub passes : Pair → Passing → Pair
+passes s (Happens what) = at_first_once s what
+passes s (Loses p) = loses p s
+
+abbrev pub passed : Pair → Passed → Pair
+passed s e = seen e.side (passes (seen e.side s) e.what)
+
+abbrev pub run_once : List Passed → Pair → Pair
+run_once [] s = s
+run_once (e ∷ es) s = run_once es (passed s e)
+
+-- the same but for what is under way
+pub record IsLike (d e : End) : Type 0 where
+  pub joined : d.joined ≡ e.joined
+  pub marked : d.marked ≡ e.marked
+  pub drawn : d.drawn ≡ e.drawn
+  pub waiting : d.waiting ≡ e.waiting
+  pub boots : d.boots ≡ e.boots
+  pub past : d.past ≡ e.past
+  pub barred : d.barred ≡ e.barred
+  pub closed : d.closed ≡ e.closed
+
+-- there are events of the two ends that lead to the same
+pub record HasRun (passings : List Passed) : Type 0 where
+  pub events : List Event
+  pub of_a : IsLike (run_once passings start).a (run events start).a
+  pub of_b : IsLike (run_once passings start).b (run events start).b
+
+abbrev pub Included : Type 0
+Included = (passings : List Passed) → HasRun passings
