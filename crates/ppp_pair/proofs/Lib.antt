@@ -1,1 +1,7 @@
+mod Growth
+mod Invariant
+mod LinkLemmas
+mod PacketLemmas
+mod PastLemmas
 mod StandardFacts
+mod Steps

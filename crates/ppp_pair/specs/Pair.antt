@@ -142,14 +142,14 @@ may_answer what Rej e = not (is_waiting e)
 may_answer what FullNak e = not (is_waiting e)
 
 -- The Ack of a drop marks the link.
-abbrev pub promises : BapAsk → ResponseCode → End → End
-promises (Drop l) Ack e = record e { marked = with_link e.marked l true }
-promises what code e = e
+abbrev pub promised : BapAsk → ResponseCode → (ℕ → Bool) → ℕ → Bool
+promised (Drop l) Ack marked = with_link marked l true
+promised what code marked = marked
 
 -- It takes a copy of a request, and answers it by a response of its Type.
 abbrev pub answers : ℕ → BapAsk → ResponseCode → Pair → Pair
 answers n what code p = record {
-  a = does (Took (key_of p.b n) code) (promises what code p.a);
+  a = does (Took (key_of p.b n) code) (record p.a { marked = promised what code p.a.marked });
   b = gets (Response n (response_type what) code) p.b;
 }
 
