@@ -1,7 +1,9 @@
 mod Growth
 mod Invariant
 mod LinkLemmas
+mod LinkSteps
 mod PacketLemmas
 mod PastLemmas
+mod Runs
 mod StandardFacts
 mod Steps

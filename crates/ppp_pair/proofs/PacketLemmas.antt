@@ -8,10 +8,10 @@ use Rattle.ppp_bap.specs.declared.bap_ask.BapAsk.TheVariants.{Call, Callback, Dr
 use Rattle.ppp_pair.specs.Pair.{Packet, Request, Response, same_ask, same_packet}
 use Rattle.ppp_pair.specs.Response.{ResponseCode, ResponseType, same_code, same_type}
 
-type_is : (t u : ResponseType) → same_type t u ≡ true → t ≡ u
+pub type_is : (t u : ResponseType) → same_type t u ≡ true → t ≡ u
 type_is t u e = grind arith
 
-code_is : (c d : ResponseCode) → same_code c d ≡ true → c ≡ d
+pub code_is : (c d : ResponseCode) → same_code c d ≡ true → c ≡ d
 code_is c d e = grind arith
 
 pub ask_is : (a b : BapAsk) → same_ask a b ≡ true → a ≡ b

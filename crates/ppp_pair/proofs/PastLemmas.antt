@@ -13,7 +13,7 @@ has_here x xs = (0, omega arith, refl)
 pub has_more : {X : Type 0} (y : X) (xs : List X) (x : X) → Contains xs x → Contains (y ∷ xs) x
 has_more y xs x h = Contains-append_right (y ∷ []) xs x h
 
-has_by : {X : Type 0} (y : X) (xs : List X) (x : X) (k : ℕ) → k < length (y ∷ xs) → get_or (y ∷ xs) k x ≡ x → (y ≡ x) ⊎ Contains xs x
+pub has_by : {X : Type 0} (y : X) (xs : List X) (x : X) (k : ℕ) → k < length (y ∷ xs) → get_or (y ∷ xs) k x ≡ x → (y ≡ x) ⊎ Contains xs x
 has_by y xs x zero lt e = inl e
 has_by y xs x (suc k) lt e = inr (k, omega arith, e)
 

@@ -291,3 +291,47 @@ answers_keeps s n what code sent may h =
 
 -- ---- a request is granted
 
+-- ---- a request is granted
+
+abbrev granting : End → Waiting → End
+granting e w = does (Granted (key_of e w.ordinal)) (record e { waiting = None })
+
+granting_more : (e : End) (w : Waiting) → Grows e (granting e w)
+granting_more e w = record {
+  boots = refl;
+  drawn = omega arith;
+  waits = λ v h. absurd (none_waits v h);
+  acked = λ p h. has_more (Granted (key_of e w.ordinal)) e.past (Took p Ack) h;
+  held = λ l h. h;
+  joined = λ l h. h;
+}
+
+granting_drawn : (e f : End) (w : Waiting) → e.waiting ≡ Some w → Half e f → (k : Key) → IsOwn k (granting e w).past → IsDrawn e k
+granting_drawn e f w x h k (inl is) = h.drawn k (inl (has_other (Granted (key_of e w.ordinal)) e.past (Asked k) (λ y. cc) is))
+granting_drawn e f w x h k (inr is) = ⊎_elim
+    (λ here. let same : key_of e w.ordinal ≡ k = cc in subst (λ q. IsDrawn e q) same (inr (refl, h.waits w x)))
+    (λ was. h.drawn k (inr was)) (has_cases (Granted (key_of e w.ordinal)) e.past (Granted k) is)
+
+pub grants_keeps : (s : Pair) (w : Waiting) → s.a.waiting ≡ Some w → HasAcked (key_of s.a w.ordinal) s.b.past → Holds s → Holds (grants w s)
+grants_keeps s w x acked h =
+    let e = s.a in
+    let f = s.b in
+    let key = key_of e w.ordinal in
+    let mine = h.of_a in
+    record {
+      of_a = record {
+        drawn = granting_drawn e f w x mine;
+        waits = λ v y. absurd (none_waits v y);
+        unwaited = λ p q before took wait. none_waits wait.request wait.waits;
+        there = λ v l y d. absurd (none_waits v y);
+        barred = mine.barred;
+        since = mine.since;
+        unclosed = mine.unclosed;
+        granted = λ k g. ⊎_elim (λ here. let same : key ≡ k = cc in subst (λ q. HasAcked q f.past) same acked) (λ was. mine.granted k was)
+            (has_cases (Granted key) e.past (Granted k) g);
+        coming = coming_grows e f (granting e w) f (granting_more e w) (grows_not f) e.coming mine.coming;
+      };
+      of_b = other_grows f e (granting e w) (granting_more e w) h.of_b;
+      free = free_granted key e.past f.past
+          (λ q before g. mine.unwaited q key before (h.of_b.granted q g) (record { request = w; waits = x; key = refl })) h.free;
+    }
