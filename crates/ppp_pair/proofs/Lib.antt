@@ -1,3 +1,4 @@
+mod CloseLemmas
 mod Growth
 mod Invariant
 mod LinkLemmas

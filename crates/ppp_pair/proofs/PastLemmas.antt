@@ -68,3 +68,6 @@ free_granted k xs ys new h p q before other granted grant =
     (has_cases (Granted k) xs (Granted p) granted) where
   granted_same : Granted k ≡ Granted p → p ≡ k
   granted_same e = cc
+
+pub has_none : {X : Type 0} (x : X) → Contains [] x → ⊥
+has_none x h = omega (arith, h.1)

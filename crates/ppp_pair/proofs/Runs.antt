@@ -5,14 +5,14 @@ use Rattle.std.proofs.lemmas.Bool.{and_parts, both_ways, cases_eq, true≢false}
 use Rattle.ppp_bap.specs.declared.bap_ask.BapAsk.{BapAsk}
 use Rattle.ppp_bap.specs.declared.bap_ask.BapAsk.TheVariants.{Call, Callback, Drop}
 use Rattle.ppp_pair.specs.Close.{Closes, IsClosing, IsKept}
-use Rattle.ppp_pair.specs.Crossing.{HasGranted, IsCrossing}
-use Rattle.ppp_pair.specs.Pair.{A, Asks, AsksAgain, B, Draws, End, EndsWait, Event, Happening, Joins, Key, Leaves, Pair, Reboots, Request, Response, Side, TakesRequest, TakesResponse, Waiting, answers, asks, at_first, closes, follows, grants, happens, has_staying, hears, is_coming, is_response_to, joins, key_of, leaves, may_answer, may_ask, run, seen, start, takes_response, turned, with_link}
+use Rattle.ppp_pair.specs.Crossing.{HasGranted, IsCrossing, NoCrossing}
+use Rattle.ppp_pair.specs.Pair.{A, Asked, Asks, AsksAgain, B, Draws, End, EndsWait, Event, Granted, Happening, Joins, Key, Leaves, Pair, Reboots, Request, Response, Side, TakesRequest, TakesResponse, Waiting, answers, asks, at_first, closes, follows, grants, happens, has_staying, hears, is_coming, is_response_to, joins, key_of, leaves, may_answer, may_ask, run, seen, start, takes_response, turned, with_link}
 use Rattle.ppp_pair.specs.Response.{Ack, DropResponse, FullNak, Nak, Rej, ResponseCode, ResponseType, response_type, same_type}
 use Rattle.ppp_pair.proofs.Invariant.{Half, Holds, IsResponseSound, IsSound}
 use Rattle.ppp_pair.proofs.LinkLemmas.{IsBeside, is_beside, link_at, link_else}
 use Rattle.ppp_pair.proofs.LinkSteps.{closes_keeps, joins_keeps, leaves_keeps, reboots_keeps}
 use Rattle.ppp_pair.proofs.PacketLemmas.{packet_all, type_is}
-use Rattle.ppp_pair.proofs.PastLemmas.{free_turned, has_by, has_cases}
+use Rattle.ppp_pair.proofs.PastLemmas.{free_turned, has_none}
 use Rattle.ppp_pair.proofs.Steps.{again_keeps, answers_keeps, asks_keeps, draws_keeps, ends_keeps, grants_keeps}
 
 -- ---- a response that is taken
@@ -109,3 +109,31 @@ happens_keeps s e h = seen_holds e.side (at_first (seen e.side s) e.what) (first
 pub run_keeps : (es : List Event) (s : Pair) → Holds s → Holds (run es s)
 run_keeps [] s h = h
 run_keeps (e ∷ es) s h = run_keeps es (happens s e) (happens_keeps s e h)
+
+none_waits : (w : Waiting) → None ≡ Some w → ⊥
+none_waits w e = cc
+
+half_begun : Half start.a start.b
+half_begun = record {
+  drawn = λ k own. ⊎_elim (λ asked. absurd (has_none (Asked k) asked)) (λ granted. absurd (has_none (Granted k) granted)) own;
+  waits = λ w x. absurd (none_waits w x);
+  unwaited = λ p q before acked wait. none_waits wait.request wait.waits;
+  there = λ w l x d. absurd (none_waits w x);
+  barred = λ l b. refl;
+  since = λ l b. absurd (true≢false (sym b));
+  unclosed = λ l j m. refl;
+  granted = λ k g. absurd (has_none (Granted k) g);
+  coming = tt;
+}
+
+pub start_holds : Holds start
+start_holds = record { of_a = half_begun; of_b = half_begun; free = λ p q before other granted grant. has_none (Granted p) granted }
+
+-- in every run, as the end of a side sees it
+pub every_holds : (es : List Event) (side : Side) → Holds (seen side (run es start))
+every_holds es side = seen_holds side (run es start) (run_keeps es start start_holds)
+
+-- ---- no two crossing requests are both granted
+
+pub crossing : (es : List Event) → NoCrossing (run es start)
+crossing es p q cross granted grant = (run_keeps es start start_holds).free p q cross.of_a cross.of_b granted grant

@@ -1,0 +1,23 @@
+//! What holds of two ends that ask for links, in every run. These functions answer nothing: each carries its laws as its clauses.
+
+ghost use Rattle.ppp_pair.specs.Close.{ClosesSo, Kept, SoCloses};
+ghost use Rattle.ppp_pair.specs.Crossing.{Crossing};
+
+/// No two requests that cross are both granted, whatever happens. Two of the two ends cross where each was first sent before its end
+/// took any copy of the other (RFC 2125 speaks of a race).
+pub fn crossing()
+    ensures { Crossing }
+{}
+
+/// Clauses on links that close under a grant, whatever happens and at both ends.
+///
+/// - `kept`: then some other link is joined there and unmarked, and the other end hasn't closed it under a grant since this end last
+///   joined it.
+/// - `only`: a response closes a link only where the request that waits is to drop it, and is granted by that response, and another
+///   joined and unmarked link is there.
+/// - `closes`: then it does.
+pub fn kept()
+    ensures kept { Kept }
+    ensures only { ClosesSo }
+    ensures closes { SoCloses }
+{}
