@@ -3,8 +3,10 @@ mod Growth
 mod Invariant
 mod LinkLemmas
 mod LinkSteps
+mod MatchLemmas
 mod PacketLemmas
 mod PastLemmas
+mod PossibilityLemmas
 mod Runs
 mod StandardFacts
 mod Steps

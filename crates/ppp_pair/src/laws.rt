@@ -2,6 +2,8 @@
 
 ghost use Rattle.ppp_pair.specs.Close.{ClosesSo, Kept, SoCloses};
 ghost use Rattle.ppp_pair.specs.Crossing.{Crossing};
+ghost use Rattle.ppp_pair.specs.Match.{Matching};
+ghost use Rattle.ppp_pair.specs.Possibility.{IsOnceClosed, IsOnceGranted};
 
 /// No two requests that cross are both granted, whatever happens. Two of the two ends cross where each was first sent before its end
 /// took any copy of the other (RFC 2125 speaks of a race).
@@ -20,4 +22,20 @@ pub fn kept()
     ensures kept { Kept }
     ensures only { ClosesSo }
     ensures closes { SoCloses }
+{}
+
+/// Requests are granted, and links close under a grant: so neither law above speaks of nothing.
+///
+/// - `granted`: in some run a request is granted.
+/// - `closed`: behind some run a link closes under a grant.
+pub fn possible()
+    ensures granted { IsOnceGranted }
+    ensures closed { IsOnceClosed }
+{}
+
+/// An Identifier of 8 bits tells the requests apart, whatever happens and at both ends: a response that is under way to an end whose
+/// request waits, and has its Identifier, is one to it, ordinal and Type, if the end drew no more than 255 Identifiers since it drew
+/// that of the request which the response answers.
+pub fn matching()
+    ensures { Matching }
 {}
