@@ -1,11 +1,11 @@
 -- A link that closes under a grant isn't the last.
-use Rattle.std.proofs.Common.{◌≡◌, ◌≢◌, ◌∙◌, ◌==◌, ℕ, Bool, true, false, ◌&&◌, List, Option, Some, None, eq-eqb, ⊎_elim, ap, ap₂, refl, sym, subst, arith}
+use Rattle.std.proofs.Common.{◌≡◌, ◌∙◌, ◌==◌, ℕ, Bool, true, false, Option, Some, None, eq-eqb, ⊎_elim, ap, ap₂, refl, sym, subst}
 use Rattle.std.specs.Prelude.{if◌then◌else◌}
-use Rattle.std.proofs.lemmas.Bool.{and_from, and_parts, both_ways, cases_eq}
+use Rattle.std.proofs.lemmas.Bool.{and_parts, both_ways, cases_eq}
 use Rattle.ppp_bap.specs.declared.bap_ask.BapAsk.{BapAsk}
 use Rattle.ppp_bap.specs.declared.bap_ask.BapAsk.TheVariants.{Call, Callback, Drop}
 use Rattle.ppp_pair.specs.Close.{Closes, ClosesSo, IsClosing, IsKept, Kept, SoCloses}
-use Rattle.ppp_pair.specs.Pair.{Event, Pair, Response, Side, TakesResponse, Waiting, at_first, closes, follows, grants, has_staying, hears, is_coming, is_response_to, run, seen, start, takes_response, with_link}
+use Rattle.ppp_pair.specs.Pair.{Pair, Response, Waiting, at_first, closes, follows, grants, has_staying, hears, is_coming, is_response_to, run, seen, start, takes_response, with_link}
 use Rattle.ppp_pair.specs.Response.{Ack, DropResponse, FullNak, Nak, Rej, ResponseCode, ResponseType, response_type, same_type}
 use Rattle.ppp_pair.proofs.Invariant.{Holds}
 use Rattle.ppp_pair.proofs.LinkLemmas.{is_beside, link_at, link_else}
@@ -26,6 +26,7 @@ follows_so s w (Drop m) l j left = by (has_staying m s.a) refl left where
   closed stays gone = ⊎_elim
       (λ (same : l ≡ m). record { drop = ap (λ (k : ℕ). Drop k) (sym same); stays = subst (λ k. has_staying k s.a ≡ true) (sym same) stays })
       (λ n. absurd (both_ways (s.a.joined l) (sym (link_else s.a.joined m false l n) ∙ gone) j)) (cases_eq l m)
+
   by : (b : Bool) → has_staying m s.a ≡ b → (if b then closes m (grants w s) else grants w s).a.joined l ≡ false → FollowsSo s (Drop m) l
   by true stays gone = closed stays gone
   by false stays gone = absurd (both_ways (s.a.joined l) gone j)
@@ -52,6 +53,7 @@ takes_so s n t code l j left = by s.a.waiting refl left where
   one : (w : Waiting) (b : Bool) → s.a.waiting ≡ Some w → is_response_to w n t ≡ b → (if b then hears w code s else s).a.joined l ≡ false → TakesSo s n t code l
   one w true x is gone = record { request = w; waits = x; counts = is; hears = hears_so s w code l j gone }
   one w false x is gone = absurd (both_ways (s.a.joined l) gone j)
+
   by : (o : Option Waiting) → s.a.waiting ≡ o → (takes_response o n t code s).a.joined l ≡ false → TakesSo s n t code l
   by None x gone = absurd (both_ways (s.a.joined l) gone j)
   by (Some w) x gone = one w (is_response_to w n t) x refl gone
@@ -83,12 +85,15 @@ closes_so s n t code l c =
     let ordinal : w.ordinal ≡ n = matches_ordinal w n t takes.counts in
     let typed : response_type w.what ≡ t = type_is (response_type w.what) t (and_parts (w.ordinal == n) (same_type (response_type w.what) t) takes.counts).1 in
     let type : t ≡ DropResponse = sym typed ∙ ap response_type drop in
-    let ack : code ≡ Ack = hears.ack in
-    (record {
-      waits = takes.waits ∙ ap (λ (x : Waiting). Some x) (waiting_is w n (Drop l) ordinal drop);
-      granted = subst (λ u. is_coming (Response n u Ack) s.a ≡ true) type (subst (λ x. is_coming (Response n t x) s.a ≡ true) ack comes.coming);
-      stays = hears.follows.stays;
-    }, type, ack)
+    let ack : code ≡ Ack = hears.ack in (
+      record {
+        waits = takes.waits ∙ ap (λ (x : Waiting). Some x) (waiting_is w n (Drop l) ordinal drop);
+        granted = subst (λ u. is_coming (Response n u Ack) s.a ≡ true) type (subst (λ x. is_coming (Response n t x) s.a ≡ true) ack comes.coming);
+        stays = hears.follows.stays;
+      },
+      type,
+      ack,
+    )
 
 -- ---- what stays
 

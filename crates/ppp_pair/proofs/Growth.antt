@@ -1,8 +1,8 @@
 -- Steps by which an end knows no less than before: what was sound stays sound.
-use Rattle.std.proofs.Common.{◌≡◌, ◌≤◌, ◌⊎◌, ℕ, true, List, [], ◌∷◌, Some, refl, sym, subst, arith}
+use Rattle.std.proofs.Common.{◌≡◌, ◌≤◌, ℕ, true, List, Some, refl, arith}
 use Rattle.std.specs.List.{AllByRecursion}
-use Rattle.ppp_pair.specs.Pair.{Deed, End, Key, Packet, Pair, Request, Response, Waiting, does, gets, key_of}
-use Rattle.ppp_pair.proofs.Invariant.{HasAcked, Half, Holds, IsHeld, IsRequestSound, IsResponseSound, IsSound, Waits}
+use Rattle.ppp_pair.specs.Pair.{End, Key, Packet, Pair, Request, Response, Waiting, gets, key_of}
+use Rattle.ppp_pair.proofs.Invariant.{HasAcked, Half, Holds, IsHeld, IsSound}
 use Rattle.ppp_pair.proofs.PacketLemmas.{all_weaker}
 
 -- `e` became `e'`
@@ -76,8 +76,10 @@ gets_keeps e f p s h = record {
   since = h.since;
   unclosed = h.unclosed;
   granted = h.granted;
-  coming = (sound_grows e f (gets p e) f (gets_more e p) (grows_not f) p s,
-      coming_grows e f (gets p e) f (gets_more e p) (grows_not f) e.coming h.coming);
+  coming = (
+    sound_grows e f (gets p e) f (gets_more e p) (grows_not f) p s,
+    coming_grows e f (gets p e) f (gets_more e p) (grows_not f) e.coming h.coming,
+  );
 }
 
 -- the first end sent a sound packet

@@ -1,9 +1,11 @@
 mod CloseLemmas
+mod DeliveryLemmas
 mod Growth
 mod Invariant
 mod LinkLemmas
 mod LinkSteps
 mod MatchLemmas
+mod MemoryLemmas
 mod PacketLemmas
 mod PastLemmas
 mod PossibilityLemmas

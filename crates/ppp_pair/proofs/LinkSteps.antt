@@ -1,15 +1,13 @@
 -- Links that leave and join, and a reboot, keep the invariant.
-use Rattle.std.proofs.Common.{◌≡◌, ◌≤◌, ◌<◌, ◌≢◌, ◌⊎◌, ◌∙◌, ◌+◌, ◌==◌, ℕ, Bool, true, false, not, ◌&&◌, List, [], ◌∷◌, Contains, Option, Some, None, inl, inr, ⊎_elim, ap, refl, sym, subst, arith}
-use Rattle.std.specs.Prelude.{if◌then◌else◌, option_map}
-use Rattle.std.specs.List.{AllByRecursion}
+use Rattle.std.proofs.Common.{◌≡◌, ◌≢◌, ◌∙◌, ℕ, Bool, true, false, Option, Some, None, inl, inr, ⊎_elim, ap, refl, sym, subst, arith}
+use Rattle.std.specs.Prelude.{if◌then◌else◌}
 use Rattle.std.proofs.lemmas.Bool.{both_ways, cases_eq, eqb-false, false≢true}
 use Rattle.ppp_bap.specs.Requests.{is_drop_of}
 use Rattle.ppp_bap.specs.declared.bap_ask.BapAsk.{BapAsk}
 use Rattle.ppp_bap.specs.declared.bap_ask.BapAsk.TheVariants.{Call, Callback, Drop}
-use Rattle.ppp_pair.specs.Pair.{End, Key, Packet, Pair, Request, Response, Waiting, begins_anew, closes, emptied, joins, leaves, no_links, reboots, with_link, without_drop}
-use Rattle.ppp_pair.specs.Response.{ResponseCode, ResponseType, Ack}
+use Rattle.ppp_pair.specs.Pair.{End, Key, Packet, Pair, Request, Response, Waiting, begins_anew, closes, joins, leaves, reboots, with_link, without_drop}
 use Rattle.ppp_pair.proofs.Growth.{Grows, coming_grows, grows_not, other_grows}
-use Rattle.ppp_pair.proofs.Invariant.{Half, Holds, IsDrawn, IsHeld, IsOwn, IsSound, Waits}
+use Rattle.ppp_pair.proofs.Invariant.{Half, Holds, IsDrawn, IsHeld, IsSound}
 use Rattle.ppp_pair.proofs.LinkLemmas.{link_at, link_else, link_more}
 use Rattle.ppp_pair.proofs.PacketLemmas.{all_weaker}
 
@@ -49,6 +47,7 @@ leaving_barred : (l : ℕ) (e f : End) → Half e f → (m : ℕ) → (leaving l
 leaving_barred l e f h m b = ⊎_elim here there (cases_eq m l) where
   here : m ≡ l → ((leaving l e f).joined m ≡ false) × (f.joined m ≡ true)
   here same = rw same (link_at e.joined l false, sym (link_at e.barred l (f.joined l)) ∙ subst (λ k. with_link e.barred l (f.joined l) k ≡ true) same b)
+
   there : m ≢ l → ((leaving l e f).joined m ≡ false) × (f.joined m ≡ true)
   there n =
       let was : e.barred m ≡ true = sym (link_else e.barred l (f.joined l) m n) ∙ b in

@@ -1,7 +1,7 @@
 -- An Identifier of 8 bits tells the requests apart.
-use Rattle.std.proofs.Common.{◌≡◌, ◌≤◌, ◌+◌, ◌%◌, ℕ, true, List, Some, sym, arith}
+use Rattle.std.proofs.Common.{◌≡◌, ◌≤◌, ◌+◌, ◌%◌, ℕ, sym, arith}
 use Rattle.ppp_pair.specs.Match.{IsToWaiting, Matches, Matching}
-use Rattle.ppp_pair.specs.Pair.{Event, Pair, Response, Side, Waiting, run, seen, start}
+use Rattle.ppp_pair.specs.Pair.{Pair, Response, Waiting, run, seen, start}
 use Rattle.ppp_pair.specs.Response.{ResponseCode, ResponseType}
 use Rattle.ppp_pair.proofs.Invariant.{Holds, IsSound}
 use Rattle.ppp_pair.proofs.PacketLemmas.{packet_all}

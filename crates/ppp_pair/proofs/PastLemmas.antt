@@ -3,7 +3,7 @@ use Rattle.std.proofs.Common.{◌≡◌, ◌<◌, ◌⊎◌, ℕ, zero, suc, Lis
 use Rattle.std.proofs.lemmas.List.Elements.{Contains-append_right}
 use Rattle.ppp_pair.specs.Crossing.{HasGranted, HasTaken, IsBefore}
 use Rattle.ppp_pair.specs.Pair.{Asked, Deed, Granted, Key, Took}
-use Rattle.ppp_pair.specs.Response.{ResponseCode, Ack}
+use Rattle.ppp_pair.specs.Response.{ResponseCode}
 
 -- ---- what stands in a list
 
@@ -53,8 +53,8 @@ free_asked k xs ys new h p q before other granted grant =
     let was = has_other (Asked k) xs (Granted p) (λ e. cc) granted in
     ⊎_elim (λ now. new (let same : p ≡ k = asked_same now.0 in subst (λ x. HasGranted x xs) same was)) (λ old. h p q old other was grant)
     (before_cases p q (Asked k) xs before) where
-  asked_same : Asked k ≡ Asked p → p ≡ k
-  asked_same e = cc
+      asked_same : Asked k ≡ Asked p → p ≡ k
+      asked_same e = cc
 
 pub free_took : (k : Key) (code : ResponseCode) (xs ys : List Deed) → AreFree xs ys → AreFree (Took k code ∷ xs) ys
 free_took k code xs ys h p q before other granted grant =
@@ -66,8 +66,8 @@ free_granted k xs ys new h p q before other granted grant =
     let was = before_other p q (Granted k) xs (λ e. cc) before in
     ⊎_elim (λ now. let same : p ≡ k = granted_same now in new q (subst (λ x. IsBefore x q xs) same was) grant) (λ old. h p q was other old grant)
     (has_cases (Granted k) xs (Granted p) granted) where
-  granted_same : Granted k ≡ Granted p → p ≡ k
-  granted_same e = cc
+      granted_same : Granted k ≡ Granted p → p ≡ k
+      granted_same e = cc
 
 pub has_none : {X : Type 0} (x : X) → Contains [] x → ⊥
 has_none x h = omega (arith, h.1)

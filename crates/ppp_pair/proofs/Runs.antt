@@ -1,17 +1,15 @@
 -- The invariant holds in every state of a run, and so do the laws on crossing requests and on last links.
-use Rattle.std.proofs.Common.{◌≡◌, ◌≢◌, ◌∙◌, ◌+◌, ◌==◌, ℕ, Bool, true, false, ◌&&◌, List, [], ◌∷◌, Option, Some, None, Contains, eqb-true, ⊎_elim, ap, refl, sym, subst, arith}
+use Rattle.std.proofs.Common.{◌≡◌, ◌+◌, ◌==◌, ℕ, Bool, true, false, ◌&&◌, List, [], ◌∷◌, Option, Some, None, eqb-true, ⊎_elim, refl, sym, subst}
 use Rattle.std.specs.Prelude.{if◌then◌else◌, ◌||◌}
-use Rattle.std.proofs.lemmas.Bool.{and_parts, both_ways, cases_eq, true≢false}
+use Rattle.std.proofs.lemmas.Bool.{and_parts, true≢false}
 use Rattle.ppp_bap.specs.declared.bap_ask.BapAsk.{BapAsk}
 use Rattle.ppp_bap.specs.declared.bap_ask.BapAsk.TheVariants.{Call, Callback, Drop}
-use Rattle.ppp_pair.specs.Close.{Closes, IsClosing, IsKept}
-use Rattle.ppp_pair.specs.Crossing.{HasGranted, IsCrossing, NoCrossing}
-use Rattle.ppp_pair.specs.Pair.{A, Asked, Asks, AsksAgain, B, Draws, End, EndsWait, Event, Granted, Happening, Joins, Key, Leaves, Pair, Reboots, Request, Response, Side, TakesRequest, TakesResponse, Waiting, answers, asks, at_first, closes, follows, grants, happens, has_staying, hears, is_coming, is_response_to, joins, key_of, leaves, may_answer, may_ask, run, seen, start, takes_response, turned, with_link}
-use Rattle.ppp_pair.specs.Response.{Ack, DropResponse, FullNak, Nak, Rej, ResponseCode, ResponseType, response_type, same_type}
+use Rattle.ppp_pair.specs.Crossing.{NoCrossing}
+use Rattle.ppp_pair.specs.Pair.{A, Asked, Asks, AsksAgain, B, Draws, EndsWait, Event, Granted, Happening, Joins, Leaves, Pair, Reboots, Request, Response, Side, TakesRequest, TakesResponse, Waiting, answers, asks, at_first, closes, follows, grants, happens, has_staying, hears, is_coming, is_response_to, joins, leaves, may_answer, may_ask, run, seen, start, takes_response, turned}
+use Rattle.ppp_pair.specs.Response.{Ack, FullNak, Nak, Rej, ResponseCode, ResponseType, response_type, same_type}
 use Rattle.ppp_pair.proofs.Invariant.{Half, Holds, IsResponseSound, IsSound}
-use Rattle.ppp_pair.proofs.LinkLemmas.{IsBeside, is_beside, link_at, link_else}
 use Rattle.ppp_pair.proofs.LinkSteps.{closes_keeps, joins_keeps, leaves_keeps, reboots_keeps}
-use Rattle.ppp_pair.proofs.PacketLemmas.{packet_all, type_is}
+use Rattle.ppp_pair.proofs.PacketLemmas.{packet_all}
 use Rattle.ppp_pair.proofs.PastLemmas.{free_turned, has_none}
 use Rattle.ppp_pair.proofs.Steps.{again_keeps, answers_keeps, asks_keeps, draws_keeps, ends_keeps, grants_keeps}
 
@@ -27,6 +25,7 @@ follows_keeps s w Callback x is sound h = grants_keeps s w x (sound.acked refl) 
 follows_keeps s w (Drop l) x is sound h = by (has_staying l (grants w s).a) where
   granted : Holds (grants w s)
   granted = grants_keeps s w x (sound.acked refl) h
+
   by : (b : Bool) → Holds (if b then closes l (grants w s) else grants w s)
   by true = closes_keeps (grants w s) l (sound.held refl w l x refl is) granted
   by false = granted
@@ -50,6 +49,7 @@ takes_keeps s n t code sound h = by s.a.waiting refl where
   one : (w : Waiting) (b : Bool) → s.a.waiting ≡ Some w → is_response_to w n t ≡ b → Holds (if b then hears w code s else s)
   one w true x is = hears_keeps s w code x (sound_typed s w n t code x (matches_ordinal w n t is) sound) h
   one w false x is = h
+
   by : (o : Option Waiting) → s.a.waiting ≡ o → Holds (takes_response o n t code s)
   by None x = h
   by (Some w) x = one w (is_response_to w n t) x refl

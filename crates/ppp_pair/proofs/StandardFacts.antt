@@ -1,9 +1,9 @@
 -- Runs of two ends that ask for links, computed.
 use Rattle.std.proofs.Common.{◌≡◌, ℕ, Bool, true, false, List, [], ◌∷◌, ◌++◌, refl}
-use Rattle.std.specs.Prelude.{Option, Some, None}
+use Rattle.std.specs.Prelude.{Some, None}
 use Rattle.ppp_bap.specs.LinkSet.{some_link}
 use Rattle.ppp_bap.specs.declared.bap_ask.BapAsk.TheVariants.{Call, Drop}
-use Rattle.ppp_pair.specs.Pair.{A, Asked, Asks, AsksAgain, B, Deed, Draws, End, EndsWait, Event, Granted, Happening, Joins, Key, Leaves, Pair, Reboots, Request, Response, Side, TakesRequest, TakesResponse, Took, Waiting, at_first, run, start, with_link}
+use Rattle.ppp_pair.specs.Pair.{A, Asked, Asks, AsksAgain, B, Draws, End, EndsWait, Event, Granted, Happening, Joins, Key, Leaves, Pair, Reboots, Request, Response, Side, TakesRequest, TakesResponse, Took, at_first, run, start, with_link}
 use Rattle.ppp_pair.specs.Response.{Ack, CallResponse, DropResponse, FullNak, Nak, Rej}
 
 abbrev event : Side → Happening → Event

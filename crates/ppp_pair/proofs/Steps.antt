@@ -1,18 +1,17 @@
 -- Each step of an end keeps the invariant.
-use Rattle.std.proofs.Common.{◌≡◌, ◌≤◌, ◌<◌, ◌≢◌, ◌⊎◌, ◌∙◌, ◌+◌, ℕ, Bool, true, false, not, ◌&&◌, List, [], ◌∷◌, Contains, Option, Some, None, inl, inr, ⊎_elim, ap, refl, sym, subst, arith}
-use Rattle.std.specs.Prelude.{if◌then◌else◌, is_some}
-use Rattle.std.specs.List.{AllByRecursion}
-use Rattle.std.proofs.lemmas.Bool.{and_parts, both_ways, cases_Bool, cases_eq, false≢true, true≢false}
+use Rattle.std.proofs.Common.{◌≡◌, ◌∙◌, ◌+◌, ℕ, Bool, true, false, not, ◌∷◌, Option, Some, None, inl, inr, ⊎_elim, ap, refl, sym, subst, arith}
+use Rattle.std.specs.Prelude.{is_some}
+use Rattle.std.proofs.lemmas.Bool.{and_parts, both_ways, cases_Bool, false≢true}
 use Rattle.ppp_bap.specs.declared.bap_ask.BapAsk.{BapAsk}
 use Rattle.ppp_bap.specs.declared.bap_ask.BapAsk.TheVariants.{Call, Callback, Drop}
-use Rattle.ppp_pair.specs.Crossing.{HasGranted, HasTaken, IsBefore}
-use Rattle.ppp_pair.specs.Pair.{Asked, Deed, End, Granted, Key, Packet, Pair, Request, Response, Took, Waiting, answers, asks, asks_again, begins_anew, closes, does, draws, emptied, ends_wait, gets, grants, is_coming, is_waiting, joins, key_of, leaves, may_answer, may_ask, no_links, promised, reboots, with_link, without_drop}
-use Rattle.ppp_pair.specs.Response.{ResponseCode, ResponseType, Ack, Nak, Rej, FullNak, response_type}
-use Rattle.ppp_pair.proofs.Growth.{Grows, coming_grows, gets_more, grows_not, other_grows, sends_keeps, sound_grows}
-use Rattle.ppp_pair.proofs.Invariant.{HasAcked, Half, Holds, IsDrawn, IsHeld, IsOwn, IsRequestSound, IsResponseSound, IsSound, Waits}
-use Rattle.ppp_pair.proofs.LinkLemmas.{link_at, link_else, link_more, promised_more}
+use Rattle.ppp_pair.specs.Crossing.{IsBefore}
+use Rattle.ppp_pair.specs.Pair.{Asked, Deed, End, Granted, Key, Packet, Pair, Request, Response, Took, Waiting, answers, asks, asks_again, does, draws, ends_wait, grants, is_coming, is_waiting, key_of, may_answer, may_ask, promised}
+use Rattle.ppp_pair.specs.Response.{ResponseCode, Ack, response_type}
+use Rattle.ppp_pair.proofs.Growth.{Grows, coming_grows, grows_not, other_grows, sends_keeps}
+use Rattle.ppp_pair.proofs.Invariant.{HasAcked, Half, Holds, IsDrawn, IsOwn, IsSound, Waits}
+use Rattle.ppp_pair.proofs.LinkLemmas.{link_at, promised_more}
 use Rattle.ppp_pair.proofs.PacketLemmas.{all_weaker, packet_all}
-use Rattle.ppp_pair.proofs.PastLemmas.{AreFree, before_asked, before_cases, before_other, free_asked, free_granted, free_took, free_turned, has_cases, has_here, has_more, has_other}
+use Rattle.ppp_pair.proofs.PastLemmas.{before_asked, before_cases, before_other, free_asked, free_granted, free_took, has_cases, has_here, has_more, has_other}
 
 -- ---- an Identifier is drawn, and a wait ends
 
@@ -92,10 +91,10 @@ again_keeps s h = by s.a.waiting refl where
   by : (o : Option Waiting) → s.a.waiting ≡ o → Holds (asks_again o s)
   by None e = h
   by (Some w) e = sends_keeps s (Request w.ordinal w.what) (record {
-      drawn = h.of_a.waits w e;
-      newest = λ v x. let same : v ≡ w = cc in omega (arith, ap (λ (u : Waiting). u.ordinal) same);
-      same = λ v x o. let same : v ≡ w = cc in ap (λ (u : Waiting). u.what) same;
-    }) h
+    drawn = h.of_a.waits w e;
+    newest = λ v x. let same : v ≡ w = cc in omega (arith, ap (λ (u : Waiting). u.ordinal) same);
+    same = λ v x o. let same : v ≡ w = cc in ap (λ (u : Waiting). u.what) same;
+  }) h
 
 -- who may ask doesn't wait, and has joined the link to drop
 may_ask_of : (what : BapAsk) (e : End) (l : ℕ) → may_ask what e ≡ true → what ≡ Drop l → e.joined l ≡ true
@@ -118,8 +117,10 @@ asking_new : (e f : End) → Half e f → (k : Key) → IsOwn k e.past → ¬ (k
 asking_new e f h k own same = by (h.drawn k own) where
   boots : k.boots ≡ e.boots
   boots = sym (ap (λ (x : Key). x.boots) same)
+
   ordinal : k.ordinal ≡ e.drawn + 1
   ordinal = sym (ap (λ (x : Key). x.ordinal) same)
+
   by : IsDrawn e k → ⊥
   by (inl earlier) = omega (arith, earlier, boots)
   by (inr now) = omega (arith, now.1, ordinal)
@@ -128,8 +129,10 @@ asking_drawn : (e f : End) (what : BapAsk) → Half e f → (k : Key) → IsOwn 
 asking_drawn e f what h k own = by own where
   key : Key
   key = key_of e (e.drawn + 1)
+
   old : IsOwn k e.past → IsDrawn (asking e what) k
   old o = ⊎_elim (λ earlier. inl earlier) (λ now. inr (now.0, omega (arith, now.1))) (h.drawn k o)
+
   by : IsOwn k (asking e what).past → IsDrawn (asking e what) k
   by (inl is) = ⊎_elim
       (λ here. let same : key_of e (e.drawn + 1) ≡ k = cc in inr (sym (ap (λ (x : Key). x.boots) same), omega (arith, ap (λ (x : Key). x.ordinal) same)))

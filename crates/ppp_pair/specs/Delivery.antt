@@ -1,8 +1,7 @@
 -- The same two ends over links that give each packet once at most: a packet that is taken is no longer under way, and one may be
 -- lost. This project's own.
-use Rattle.std.specs.Prelude.{◌≡◌, ℕ, Bool, not, if◌then◌else◌, List, [], ◌∷◌, Option}
-use Rattle.ppp_bap.specs.declared.bap_ask.BapAsk.{BapAsk}
-use Rattle.ppp_pair.specs.Pair.{Asks, AsksAgain, Deed, Draws, End, EndsWait, Event, Happening, Joins, Leaves, Packet, Pair, Reboots, Request, Response, Side, TakesRequest, TakesResponse, Waiting, at_first, is_coming, run, same_packet, seen, start}
+use Rattle.std.specs.Prelude.{◌≡◌, true, if◌then◌else◌, List, [], ◌∷◌}
+use Rattle.ppp_pair.specs.Pair.{End, Event, Happening, Packet, Pair, Request, Response, Side, TakesRequest, TakesResponse, at_first, is_coming, run, same_packet, seen, start}
 
 -- the packets without the first that is the same
 abbrev pub without_packet : Packet → List Packet → List Packet
@@ -41,7 +40,7 @@ abbrev pub run_once : List Passed → Pair → Pair
 run_once [] s = s
 run_once (e ∷ es) s = run_once es (passed s e)
 
--- the same but for what is under way
+-- the same, and no less is under way to the second
 pub record IsLike (d e : End) : Type 0 where
   pub joined : d.joined ≡ e.joined
   pub marked : d.marked ≡ e.marked
@@ -51,6 +50,7 @@ pub record IsLike (d e : End) : Type 0 where
   pub past : d.past ≡ e.past
   pub barred : d.barred ≡ e.barred
   pub closed : d.closed ≡ e.closed
+  pub coming : (p : Packet) → is_coming p d ≡ true → is_coming p e ≡ true
 
 -- there are events of the two ends that lead to the same
 pub record HasRun (passings : List Passed) : Type 0 where

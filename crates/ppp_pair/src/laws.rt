@@ -2,7 +2,9 @@
 
 ghost use Rattle.ppp_pair.specs.Close.{ClosesSo, Kept, SoCloses};
 ghost use Rattle.ppp_pair.specs.Crossing.{Crossing};
+ghost use Rattle.ppp_pair.specs.Delivery.{Included};
 ghost use Rattle.ppp_pair.specs.Match.{Matching};
+ghost use Rattle.ppp_pair.specs.Memory.{Remembered};
 ghost use Rattle.ppp_pair.specs.Possibility.{IsOnceClosed, IsOnceGranted};
 
 /// No two requests that cross are both granted, whatever happens. Two of the two ends cross where each was first sent before its end
@@ -38,4 +40,17 @@ pub fn possible()
 /// that of the request which the response answers.
 pub fn matching()
     ensures { Matching }
+{}
+
+/// What an end keeps of the links that it left is what the states tell, whatever happens and at both ends: of a link that isn't
+/// joined, going back over the states, the other end was without it in one since this end left it, or this end never had it, exactly
+/// where nothing bars this end from joining it.
+pub fn remembered()
+    ensures { Remembered }
+{}
+
+/// Over links that give each packet once at most, so that a taken packet is under way no longer and one may be lost, both ends come to
+/// nothing else: to each list of such events there is one by which they have the same links, marks, waits and deeds.
+pub fn included()
+    ensures { Included }
 {}
