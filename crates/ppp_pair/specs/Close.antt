@@ -1,7 +1,7 @@
 -- Links that close under a grant, and that none of these is the last.
 use Rattle.std.specs.Prelude.{◌≡◌, ◌≢◌, ℕ, true, false, List, Some}
 use Rattle.ppp_bap.specs.declared.bap_ask.BapAsk.TheVariants.{Drop}
-use Rattle.ppp_pair.specs.Pair.{Event, Pair, Response, Side, TakesResponse, at_first, has_staying, is_coming, run, seen, start}
+use Rattle.ppp_pair.specs.Pair.{Event, Pair, Response, Side, TakesResponse, after, at_first, has_staying, is_coming, run, seen, start}
 use Rattle.ppp_pair.specs.Response.{Ack, DropResponse, ResponseCode, ResponseType}
 
 -- The first end closes a link under a grant: it takes a response, and by that the link leaves.
@@ -26,14 +26,15 @@ pub record IsKept (s : Pair) (l : ℕ) : Type 0 where
 
 -- whatever happens, and at both ends
 abbrev pub Kept : Type 0
-Kept = (events : List Event) (side : Side) (n : ℕ) (t : ResponseType) (code : ResponseCode) (l : ℕ) →
-    Closes (seen side (run events start)) n t code l → IsKept (seen side (run events start)) l
+Kept = (events : List Event) (side : Side) (n : ℕ) (t : ResponseType) (code : ResponseCode)
+    (l : ℕ) → Closes (after events side) n t code l → IsKept (after events side) l
 
 -- what it takes to close a link so, and that it does
 abbrev pub ClosesSo : Type 0
-ClosesSo = (events : List Event) (side : Side) (n : ℕ) (t : ResponseType) (code : ResponseCode) (l : ℕ) →
-    Closes (seen side (run events start)) n t code l → IsClosing (seen side (run events start)) n l × (t ≡ DropResponse) × (code ≡ Ack)
+ClosesSo = (events : List Event) (side : Side) (n : ℕ) (t : ResponseType) (code : ResponseCode)
+    (l : ℕ) → Closes (after events side) n t code l →
+    IsClosing (after events side) n l × (t ≡ DropResponse) × (code ≡ Ack)
 
 abbrev pub SoCloses : Type 0
 SoCloses = (events : List Event) (side : Side) (n l : ℕ) →
-    IsClosing (seen side (run events start)) n l → Closes (seen side (run events start)) n DropResponse Ack l
+    IsClosing (after events side) n l → Closes (after events side) n DropResponse Ack l

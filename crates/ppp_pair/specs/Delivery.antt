@@ -25,8 +25,10 @@ pub record Passed : Type 0 where
   pub what : Passing
 
 abbrev pub at_first_once : Pair → Happening → Pair
-at_first_once s (TakesRequest n what code) = takes_once (Request n what) (TakesRequest n what code) s
-at_first_once s (TakesResponse n t code) = takes_once (Response n t code) (TakesResponse n t code) s
+at_first_once s (TakesRequest n what code) =
+    takes_once (Request n what) (TakesRequest n what code) s
+at_first_once s (TakesResponse n t code) =
+    takes_once (Response n t code) (TakesResponse n t code) s
 at_first_once s what = at_first s what
 
 abbrev pub passes : Pair → Passing → Pair

@@ -1,6 +1,6 @@
 -- That an end which left a link may join it again exactly where the other end was without it since.
 use Rattle.std.specs.Prelude.{◌≡◌, ◌⊎◌, ◌↔◌, ℕ, false, List, [], ◌∷◌, ⊤, map}
-use Rattle.ppp_pair.specs.Pair.{Event, Pair, Side, happens, run, seen, start}
+use Rattle.ppp_pair.specs.Pair.{Event, Pair, Side, after, happens, run, seen, start}
 
 -- the states of a run behind some, the newest first
 abbrev pub states : List Event → Pair → List Pair → List Pair
@@ -16,5 +16,5 @@ IsFree l (p ∷ before) = (p.a.joined l ≡ false) × ((p.b.joined l ≡ false) 
 -- whatever happens, and at both ends: of a link that isn't joined
 abbrev pub Remembered : Type 0
 Remembered = (events : List Event) (side : Side) (l : ℕ) →
-    (seen side (run events start)).a.joined l ≡ false →
-    ((seen side (run events start)).a.barred l ≡ false) ↔ IsFree l (map (seen side) (states events start []))
+    (after events side).a.joined l ≡ false →
+    ((after events side).a.barred l ≡ false) ↔ IsFree l (map (seen side) (states events start []))

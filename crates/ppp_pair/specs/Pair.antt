@@ -24,7 +24,8 @@ same_ask what other = false
 
 abbrev pub same_packet : Packet → Packet → Bool
 same_packet (Request n what) (Request m other) = (n == m) && same_ask what other
-same_packet (Response n t code) (Response m u other) = (n == m) && (same_type t u && same_code code other)
+same_packet (Response n t code) (Response m u other) =
+    (n == m) && (same_type t u && same_code code other)
 same_packet p q = false
 
 -- ---- ends
@@ -54,9 +55,11 @@ pub record End : Type 0 where
   -- how many Identifiers it drew since it began
   pub drawn : ℕ
   pub waiting : Option Waiting
-  -- What was sent to it since an end last began anew. Each of these packets may come at any time, again and again, or never.
+  -- What was sent to it since an end last began anew. Each of these packets may come at any time,
+  -- again and again, or never.
   pub coming : List Packet
-  -- No end reads the rest. How often it began anew, and what it did in all its lives, the newest first.
+  -- No end reads the rest. How often it began anew, and what it did in all its lives, the newest
+  -- first.
   pub boots : ℕ
   pub past : List Deed
   -- the links that it left and that the other end has had ever since
@@ -76,7 +79,17 @@ unfoldable pub with_link : (ℕ → Bool) → ℕ → Bool → ℕ → Bool
 with_link links l is k = if k == l then is else links k
 
 abbrev pub end_begun : End
-end_begun = record { joined = no_links; marked = no_links; drawn = 0; waiting = None; coming = []; boots = 0; past = []; barred = no_links; closed = no_links }
+end_begun = record {
+  joined = no_links;
+  marked = no_links;
+  drawn = 0;
+  waiting = None;
+  coming = [];
+  boots = 0;
+  past = [];
+  barred = no_links;
+  closed = no_links;
+}
 
 abbrev pub start : Pair
 start = record { a = end_begun; b = end_begun }
@@ -119,7 +132,10 @@ may_ask (Drop l) e = not (is_waiting e) && e.joined l
 -- A request is sent for the first time (RFC 2125: Call-Request, Callback-Request, Link-Drop-Query-Request).
 abbrev pub asks : ℕ → BapAsk → Pair → Pair
 asks n what p = record {
-  a = does (Asked (key_of p.a n)) (record p.a { drawn = n; waiting = Some (record { ordinal = n; what = what }) });
+  a = does (Asked (key_of p.a n)) (record p.a {
+    drawn = n;
+    waiting = Some (record { ordinal = n; what = what });
+  });
   b = gets (Request n what) p.b;
 }
 
@@ -170,7 +186,9 @@ leaves l p = record {
 
 -- The Ack of a drop closes the link, where another joined and unmarked link is there.
 abbrev pub closes : ℕ → Pair → Pair
-closes l p = let left = leaves l p in record left { b = record left.b { closed = with_link left.b.closed l true } }
+closes l p =
+    let left = leaves l p in
+    record left { b = record left.b { closed = with_link left.b.closed l true } }
 
 abbrev pub follows : BapAsk → Pair → Pair
 follows Call p = p
@@ -182,7 +200,9 @@ ends_wait p = record p { a = record p.a { waiting = None } }
 
 -- It takes the response to the request that waits, and a Request-Ack grants it.
 abbrev pub grants : Waiting → Pair → Pair
-grants w p = let ended = ends_wait p in record ended { a = does (Granted (key_of p.a w.ordinal)) ended.a }
+grants w p =
+    let ended = ends_wait p in
+    record ended { a = does (Granted (key_of p.a w.ordinal)) ended.a }
 
 abbrev pub hears : Waiting → ResponseCode → Pair → Pair
 hears w Ack p = follows w.what (grants w p)
@@ -200,11 +220,23 @@ takes_response (Some w) n t code p = if is_response_to w n t then hears w code p
 
 -- A link joins.
 abbrev pub joins : ℕ → Pair → Pair
-joins l p = record p { a = record p.a { joined = with_link p.a.joined l true; closed = with_link p.a.closed l false } }
+joins l p = record p {
+  a = record p.a {
+    joined = with_link p.a.joined l true;
+    closed = with_link p.a.closed l false;
+  };
+}
 
 -- The end begins anew, and with it the bundle: at both ends every link leaves and no request waits, and what was under way is lost.
 abbrev pub emptied : End → End
-emptied e = record e { joined = no_links; marked = no_links; waiting = None; coming = []; barred = no_links; closed = no_links }
+emptied e = record e {
+  joined = no_links;
+  marked = no_links;
+  waiting = None;
+  coming = [];
+  barred = no_links;
+  closed = no_links;
+}
 
 abbrev pub begins_anew : End → End
 begins_anew e = record (emptied e) { drawn = 0; boots = e.boots + 1 }
@@ -226,7 +258,7 @@ pub data Happening : Type 0 where
   TakesResponse : (ordinal : ℕ) (type : ResponseType) (code : ResponseCode) → Happening
   -- it gives up its request, whatever the reason
   EndsWait : Happening
-  -- a link joins that it never had, or that the other end was without in some state since it left it
+  -- a link joins that the end never had, or that the other end was without in some state since
   Joins : (link : ℕ) → Happening
   Leaves : (link : ℕ) → Happening
   Reboots : Happening
@@ -240,8 +272,10 @@ unfoldable pub at_first : Pair → Happening → Pair
 at_first p Draws = draws p
 at_first p (Asks what) = if may_ask what p.a then asks (p.a.drawn + 1) what p else p
 at_first p AsksAgain = asks_again p.a.waiting p
-at_first p (TakesRequest n what code) = if is_coming (Request n what) p.a && may_answer what code p.a then answers n what code p else p
-at_first p (TakesResponse n t code) = if is_coming (Response n t code) p.a then takes_response p.a.waiting n t code p else p
+at_first p (TakesRequest n what code) =
+    if is_coming (Request n what) p.a && may_answer what code p.a then answers n what code p else p
+at_first p (TakesResponse n t code) =
+    if is_coming (Response n t code) p.a then takes_response p.a.waiting n t code p else p
 at_first p EndsWait = ends_wait p
 at_first p (Joins l) = if p.a.joined l || p.a.barred l then p else joins l p
 at_first p (Leaves l) = if p.a.joined l then leaves l p else p
@@ -262,3 +296,7 @@ happens p e = seen e.side (at_first (seen e.side p) e.what)
 abbrev pub run : List Event → Pair → Pair
 run [] p = p
 run (e ∷ es) p = run es (happens p e)
+
+-- the pair behind these events, as the end of a side sees it
+abbrev pub after : List Event → Side → Pair
+after events side = seen side (run events start)
