@@ -73,6 +73,19 @@ joins_anew : (links (after joined_anew).a ≡ (true, true)) × (links (after joi
 unfolding at_first with_link some_link
 joins_anew = (refl, refl, refl)
 
+-- and what the other end closed before is forgotten
+closed_before : ((after closed_run).b.closed 1 ≡ true) × ((after joined_anew).b.closed 1 ≡ false)
+unfolding at_first with_link some_link
+closed_before = (refl, refl)
+
+-- Where the Ack comes and no other link is there any more, the link stays. The wait ends.
+abbrev alone_run : List Event
+alone_run = promised_run ++ event A (Leaves 2) ∷ event A (TakesResponse 1 DropResponse Ack) ∷ []
+
+alone_stays : (links (after alone_run).a ≡ (true, false)) × ((after alone_run).a.waiting ≡ None) × ((after alone_run).b.closed 1 ≡ false)
+unfolding at_first with_link some_link
+alone_stays = (refl, refl, refl)
+
 -- The last link isn't promised: an Ack of it changes nothing, and a Full-Nak ends the wait.
 abbrev last_asked : List Event
 last_asked = closed_run ++ event A (Asks (Drop 2)) ∷ event B (Leaves 1) ∷ []
@@ -102,7 +115,8 @@ abbrev one_run : List Event
 one_run = crossing_run ++ event A (TakesRequest 1 (Drop 2) Nak) ∷ event B EndsWait ∷ event B (TakesRequest 1 (Drop 1) Ack) ∷
     event B (TakesResponse 1 DropResponse Nak) ∷ event A (TakesResponse 1 DropResponse Ack) ∷ []
 
-one_granted : ((after one_run).a.past ≡ Granted (key 0 1) ∷ Took (key 0 1) Nak ∷ Asked (key 0 1) ∷ []) × ((after one_run).b.past ≡ Took (key 0 1) Ack ∷ Asked (key 0 1) ∷ [])
+one_granted : ((after one_run).a.past ≡ Granted (key 0 1) ∷ Took (key 0 1) Nak ∷ Asked (key 0 1) ∷ []) ×
+    ((after one_run).b.past ≡ Took (key 0 1) Ack ∷ Asked (key 0 1) ∷ [])
 unfolding at_first with_link some_link
 one_granted = (refl, refl)
 
@@ -114,7 +128,12 @@ one_closed = (refl, refl)
 
 -- A response of another Type isn't one to the request that waits, whatever its ordinal.
 abbrev call_waits : Pair
-call_waits = record start { a = record start.a { waiting = Some (record { ordinal = 1; what = Call }); coming = Response 1 DropResponse Ack ∷ Response 1 CallResponse Rej ∷ [] } }
+call_waits = record start {
+  a = record start.a {
+    waiting = Some (record { ordinal = 1; what = Call });
+    coming = Response 1 DropResponse Ack ∷ Response 1 CallResponse Rej ∷ [];
+  };
+}
 
 other_type : at_first call_waits (TakesResponse 1 DropResponse Ack) ≡ call_waits
 unfolding at_first
