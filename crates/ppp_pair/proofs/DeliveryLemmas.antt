@@ -5,9 +5,13 @@ use Rattle.std.specs.List.{list_any}
 use Rattle.std.proofs.lemmas.Bool.{or_cases}
 use Rattle.ppp_bap.specs.declared.bap_ask.BapAsk.{BapAsk}
 use Rattle.ppp_bap.specs.declared.bap_ask.BapAsk.TheVariants.{Call, Callback, Drop}
-use Rattle.ppp_pair.specs.Delivery.{Happens, Included, IsLike, Loses, Passed, Passing, at_first_once, loses, passed, passes, run_once, takes_once, without_packet}
+use Rattle.ppp_pair.specs.Close.{IsClosing, IsKept}
+use Rattle.ppp_pair.specs.Delivery.{CrossingOnce, Happens, Included, IsLike, KeptOnce, Loses, Passed, Passing, at_first_once, loses, passed, passes, run_once, takes_once, without_packet}
 use Rattle.ppp_pair.specs.Pair.{A, Asks, AsksAgain, B, Draws, End, EndsWait, Event, Happening, Joins, Leaves, Packet, Pair, Reboots, Request, Response, Side, TakesRequest, TakesResponse, Waiting, answers, asks, asks_again, at_first, closes, follows, grants, happens, has_staying, hears, is_coming, is_response_to, is_waiting, joins, leaves, may_answer, may_ask, may_grant, run, same_packet, seen, start, takes_response, turned}
-use Rattle.ppp_pair.specs.Response.{Ack, FullNak, Nak, Rej, ResponseCode, ResponseType, response_type}
+use Rattle.ppp_pair.specs.Response.{Ack, DropResponse, FullNak, Nak, Rej, ResponseCode, ResponseType, response_type}
+use Rattle.ppp_pair.proofs.CloseLemmas.{closes_so, closing_kept}
+use Rattle.ppp_pair.proofs.Invariant.{Holds}
+use Rattle.ppp_pair.proofs.Runs.{every_holds}
 
 -- ---- what is under way
 
@@ -241,12 +245,16 @@ all_runs (e ∷ es) s q g =
       goes = subst (λ x. Goes (run_once es (passed s e)) x) (sym (run_append next.events rest.events q)) rest.goes;
     }
 
+-- the run where the packets stay
+staying_run : (es : List Passed) → Runs (run_once es start) start
+staying_run es = all_runs es start start (record { to_a = []; to_b = []; is = refl; covers_a = λ p h. h; covers_b = λ p h. h })
+
 like : (e : End) (ps : List Packet) → Covers e.coming ps → IsLike e (record e { coming = ps })
 like e ps c = record { joined = refl; marked = refl; drawn = refl; waiting = refl; boots = refl; past = refl; barred = refl; closed = refl; coming = c }
 
 pub included : Included
 included es =
-    let runs = all_runs es start start (record { to_a = []; to_b = []; is = refl; covers_a = λ p h. h; covers_b = λ p h. h }) in
+    let runs = staying_run es in
     let s = run_once es start in
     let g = runs.goes in
     record {
@@ -254,3 +262,26 @@ included es =
       of_a = subst (λ x. IsLike s.a x.a) (sym g.is) (like s.a g.to_a g.covers_a);
       of_b = subst (λ x. IsLike s.b x.b) (sym g.is) (like s.b g.to_b g.covers_b);
     }
+
+-- ---- the laws on requests there
+
+pub crossing_once : CrossingOnce
+crossing_once es p q cross granted grant =
+    let runs = staying_run es in
+    let s = run_once es start in
+    let holds : Holds (with_coming s runs.goes.to_a runs.goes.to_b) = subst (λ x. Holds x) runs.goes.is (every_holds runs.events A) in
+    holds.free p q cross.of_a cross.of_b granted grant
+
+closing_once : (s q : Pair) (n l : ℕ) → Goes s q → Holds q → IsClosing s n l → IsKept s l
+closing_once s q n l g h c =
+    let more : Pair = with_coming s g.to_a g.to_b in
+    let holds : Holds more = subst (λ x. Holds x) g.is h in
+    let kept : IsKept more l = closing_kept more n l holds (record { waits = c.waits; granted = g.covers_a (Response n DropResponse Ack) c.granted; stays = c.stays }) in
+    record { link = kept.link; other = kept.other; joined = kept.joined; unmarked = kept.unmarked; unclosed = kept.unclosed }
+
+pub kept_once : KeptOnce
+kept_once es side n t code l c =
+    let runs = staying_run es in
+    let s = seen side (run_once es start) in
+    closing_once s (seen side (run runs.events start)) n l (seen_goes side (run_once es start) (run runs.events start) runs.goes) (every_holds runs.events side)
+    (closes_so s n t code l c).0

@@ -1,7 +1,7 @@
 -- Links that close under a grant, and that none of these is the last.
 use Rattle.std.specs.Prelude.{◌≡◌, ◌≢◌, ℕ, true, false, List, Some}
 use Rattle.ppp_bap.specs.declared.bap_ask.BapAsk.TheVariants.{Drop}
-use Rattle.ppp_pair.specs.Pair.{Event, Pair, Response, Side, TakesResponse, after, at_first, has_staying, is_coming, run, seen, start}
+use Rattle.ppp_pair.specs.Pair.{Event, Pair, Response, Side, TakesResponse, after, at_first, has_staying, is_coming}
 use Rattle.ppp_pair.specs.Response.{Ack, DropResponse, ResponseCode, ResponseType}
 
 -- The first end closes a link under a grant: it takes a response, and by that the link leaves.

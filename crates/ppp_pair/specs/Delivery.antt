@@ -1,7 +1,10 @@
 -- The same two ends over links that give each packet once at most: a packet that is taken is no longer under way, and one may be
 -- lost. This project's own.
-use Rattle.std.specs.Prelude.{◌≡◌, true, if◌then◌else◌, List, [], ◌∷◌}
+use Rattle.std.specs.Prelude.{◌≡◌, ℕ, true, if◌then◌else◌, List, [], ◌∷◌}
+use Rattle.ppp_pair.specs.Close.{Closes, IsKept}
+use Rattle.ppp_pair.specs.Crossing.{NoCrossing}
 use Rattle.ppp_pair.specs.Pair.{End, Event, Happening, Packet, Pair, Request, Response, Side, TakesRequest, TakesResponse, at_first, is_coming, run, same_packet, seen, start}
+use Rattle.ppp_pair.specs.Response.{ResponseCode, ResponseType}
 
 -- the packets without the first that is the same
 abbrev pub without_packet : Packet → List Packet → List Packet
@@ -42,6 +45,9 @@ abbrev pub run_once : List Passed → Pair → Pair
 run_once [] s = s
 run_once (e ∷ es) s = run_once es (passed s e)
 
+abbrev pub after_once : List Passed → Side → Pair
+after_once passings side = seen side (run_once passings start)
+
 -- the same, and no less is under way to the second
 pub record IsLike (d e : End) : Type 0 where
   pub joined : d.joined ≡ e.joined
@@ -62,3 +68,11 @@ pub record HasRun (passings : List Passed) : Type 0 where
 
 abbrev pub Included : Type 0
 Included = (passings : List Passed) → HasRun passings
+
+-- Over such links too no two requests that cross are both granted, and no close under a grant takes the last link.
+abbrev pub CrossingOnce : Type 0
+CrossingOnce = (passings : List Passed) → NoCrossing (run_once passings start)
+
+abbrev pub KeptOnce : Type 0
+KeptOnce = (passings : List Passed) (side : Side) (n : ℕ) (t : ResponseType) (code : ResponseCode)
+    (l : ℕ) → Closes (after_once passings side) n t code l → IsKept (after_once passings side) l

@@ -1,6 +1,6 @@
 -- That an Identifier of 8 bits tells the requests apart.
 use Rattle.std.specs.Prelude.{◌≡◌, ◌≤◌, ℕ, ◌+◌, ◌%◌, true, List, Some}
-use Rattle.ppp_pair.specs.Pair.{End, Event, Response, Side, Waiting, after, is_coming, run, seen, start}
+use Rattle.ppp_pair.specs.Pair.{End, Event, Response, Side, Waiting, after, is_coming}
 use Rattle.ppp_pair.specs.Response.{ResponseCode, ResponseType, response_type}
 
 -- A response is under way to an end whose request waits, no more than 255 Identifiers were drawn since its own request, and the

@@ -1,6 +1,6 @@
 -- That an end which left a link may join it again exactly where the other end was without it since.
 use Rattle.std.specs.Prelude.{◌≡◌, ◌⊎◌, ◌↔◌, ℕ, false, List, [], ◌∷◌, ⊤, map}
-use Rattle.ppp_pair.specs.Pair.{Event, Pair, Side, after, happens, run, seen, start}
+use Rattle.ppp_pair.specs.Pair.{Event, Pair, Side, after, happens, seen, start}
 
 -- the states of a run behind some, the newest first
 abbrev pub states : List Event → Pair → List Pair → List Pair

@@ -2,7 +2,7 @@
 
 ghost use Rattle.ppp_pair.specs.Close.{ClosesSo, Kept, SoCloses};
 ghost use Rattle.ppp_pair.specs.Crossing.{Crossing};
-ghost use Rattle.ppp_pair.specs.Delivery.{Included};
+ghost use Rattle.ppp_pair.specs.Delivery.{CrossingOnce, Included, KeptOnce};
 ghost use Rattle.ppp_pair.specs.Match.{Matching};
 ghost use Rattle.ppp_pair.specs.Memory.{Remembered};
 ghost use Rattle.ppp_pair.specs.Possibility.{IsOnceClosed, IsOnceGranted};
@@ -49,8 +49,13 @@ pub fn remembered()
     ensures { Remembered }
 {}
 
-/// Over links that give each packet once at most, so that a taken packet is under way no longer and one may be lost, both ends come to
-/// nothing else: to each list of such events there is one by which they have the same links, marks, waits and deeds.
+/// Clauses on links that give each packet once at most, so that a taken packet is under way no longer and one may be lost.
+///
+/// - `included`: both ends come to nothing else: to each list of such events there is one by which they have the same links, marks,
+///   waits and deeds, and no less is under way.
+/// - `crossing`, `kept`: so both laws hold there too.
 pub fn included()
-    ensures { Included }
+    ensures included { Included }
+    ensures crossing { CrossingOnce }
+    ensures kept { KeptOnce }
 {}
