@@ -9,8 +9,8 @@ pub record Closes (s : Pair) (n : ℕ) (t : ResponseType) (code : ResponseCode) 
   pub joined : s.a.joined l ≡ true
   pub left : (at_first s (TakesResponse n t code)).a.joined l ≡ false
 
--- It would: the request of that ordinal waits and is to drop the link, an Ack of it is under way, and another joined and unmarked
--- link is there.
+-- What it takes: the request of that ordinal waits and is to drop the link, the Request-Ack of it is under way, and another
+-- joined and unmarked link is there.
 pub record IsClosing (s : Pair) (n l : ℕ) : Type 0 where
   pub waits : s.a.waiting ≡ Some (record { ordinal = n; what = Drop l })
   pub granted : is_coming (Response n DropResponse Ack) s.a ≡ true
@@ -29,12 +29,13 @@ abbrev pub Kept : Type 0
 Kept = (events : List Event) (side : Side) (n : ℕ) (t : ResponseType) (code : ResponseCode)
     (l : ℕ) → Closes (after events side) n t code l → IsKept (after events side) l
 
--- what it takes to close a link so, and that it does
+-- A link closes under a grant only so,
 abbrev pub ClosesSo : Type 0
 ClosesSo = (events : List Event) (side : Side) (n : ℕ) (t : ResponseType) (code : ResponseCode)
     (l : ℕ) → Closes (after events side) n t code l →
     IsClosing (after events side) n l × (t ≡ DropResponse) × (code ≡ Ack)
 
+-- and so it does.
 abbrev pub SoCloses : Type 0
 SoCloses = (events : List Event) (side : Side) (n l : ℕ) →
     IsClosing (after events side) n l → Closes (after events side) n DropResponse Ack l

@@ -1,5 +1,5 @@
--- Two ends of one bundle that ask each other to bring up links and to drop them, and what is under way of this between them. What
--- is asked and answered is of the Bandwidth Allocation Protocol (RFC 2125). The machine is this project's own.
+-- Two ends of one bundle that ask each other to bring up links and to drop them, and what is under way of this between
+-- them. What is asked and answered is of the Bandwidth Allocation Protocol (RFC 2125). The machine is this project's own.
 use Rattle.std.specs.Prelude.{ℕ, ◌+◌, Bool, true, false, not, ◌&&◌, ◌||◌, ◌==◌, if◌then◌else◌, List, [], ◌∷◌, Option, Some, None, is_some, option_map}
 use Rattle.std.specs.List.{list_any}
 use Rattle.ppp_bap.specs.LinkSet.{some_link}
@@ -10,8 +10,8 @@ use Rattle.ppp_pair.specs.Response.{ResponseCode, Ack, Nak, Rej, FullNak, Respon
 
 -- ---- packets
 
--- A request or a response under way (RFC 2125). A request has its ordinal: its Identifier was the one of that number, counted from
--- 1, that its end drew since it began. A response has the ordinal of the request that it answers.
+-- A request or a response under way (RFC 2125). The ordinal of a request says which of the Identifiers it has that its end drew
+-- since it began, from 1 on; a copy has the same one. A response has the ordinal of the request that it answers.
 pub data Packet : Type 0 where
   Request : (ordinal : ℕ) (what : BapAsk) → Packet
   Response : (ordinal : ℕ) (type : ResponseType) (code : ResponseCode) → Packet
@@ -129,7 +129,7 @@ may_ask Call e = not (is_waiting e)
 may_ask Callback e = not (is_waiting e)
 may_ask (Drop l) e = not (is_waiting e) && e.joined l
 
--- A request is sent for the first time (RFC 2125: Call-Request, Callback-Request, Link-Drop-Query-Request).
+-- A request is sent for the first time: a Call-Request, a Callback-Request or a Link-Drop-Query-Request (RFC 2125).
 abbrev pub asks : ℕ → BapAsk → Pair → Pair
 asks n what p = record {
   a = does (Asked (key_of p.a n)) (record p.a {
@@ -144,13 +144,13 @@ abbrev pub asks_again : Option Waiting → Pair → Pair
 asks_again None p = p
 asks_again (Some w) p = record p { b = gets (Request w.ordinal w.what) p.b }
 
--- While its own request waits an end answers a Request-Nak alone. Of a joined link it may promise that it goes, where another
--- joined and unmarked link is there.
+-- It may promise that a joined link goes where another joined and unmarked link is there.
 abbrev pub may_grant : BapAsk → End → Bool
 may_grant Call e = true
 may_grant Callback e = true
 may_grant (Drop l) e = e.joined l && has_staying l e
 
+-- While its own request waits it answers a Request-Nak alone.
 abbrev pub may_answer : BapAsk → ResponseCode → End → Bool
 may_answer what Ack e = not (is_waiting e) && may_grant what e
 may_answer what Nak e = true
@@ -169,10 +169,11 @@ answers n what code p = record {
   b = gets (Response n (response_type what) code) p.b;
 }
 
--- A link leaves, with its mark and with the wait to drop it. The other end that left it before may join it again.
+-- The wait to drop a link ends as that leaves.
 abbrev pub without_drop : ℕ → Option Waiting → Option Waiting
 without_drop l w = if is_drop_of l (option_map (λ x. x.what) w) then None else w
 
+-- A link leaves, and its mark goes. The other end may join it again that left it before.
 abbrev pub leaves : ℕ → Pair → Pair
 leaves l p = record {
   a = record p.a {
@@ -184,12 +185,13 @@ leaves l p = record {
   b = record p.b { barred = with_link p.b.barred l false };
 }
 
--- The Ack of a drop closes the link, where another joined and unmarked link is there.
+-- A link closes under a grant: it leaves, and the other end's grant closed it.
 abbrev pub closes : ℕ → Pair → Pair
 closes l p =
     let left = leaves l p in
     record left { b = record left.b { closed = with_link left.b.closed l true } }
 
+-- The Request-Ack of a drop closes the link, where another joined and unmarked link is there.
 abbrev pub follows : BapAsk → Pair → Pair
 follows Call p = p
 follows Callback p = p
@@ -198,12 +200,13 @@ follows (Drop l) p = if has_staying l p.a then closes l p else p
 abbrev pub ends_wait : Pair → Pair
 ends_wait p = record p { a = record p.a { waiting = None } }
 
--- It takes the response to the request that waits, and a Request-Ack grants it.
+-- The request that waits is granted.
 abbrev pub grants : Waiting → Pair → Pair
 grants w p =
     let ended = ends_wait p in
     record ended { a = does (Granted (key_of p.a w.ordinal)) ended.a }
 
+-- It takes the response to the request that waits.
 abbrev pub hears : Waiting → ResponseCode → Pair → Pair
 hears w Ack p = follows w.what (grants w p)
 hears w Nak p = ends_wait p
@@ -218,7 +221,7 @@ abbrev pub takes_response : Option Waiting → ℕ → ResponseType → Response
 takes_response None n t code p = p
 takes_response (Some w) n t code p = if is_response_to w n t then hears w code p else p
 
--- A link joins.
+-- A link joins, and whatever closed it before is forgotten.
 abbrev pub joins : ℕ → Pair → Pair
 joins l p = record p {
   a = record p.a {
@@ -227,7 +230,7 @@ joins l p = record p {
   };
 }
 
--- The end begins anew, and with it the bundle: at both ends every link leaves and no request waits, and what was under way is lost.
+-- Every link leaves and no request waits, and what was under way is lost.
 abbrev pub emptied : End → End
 emptied e = record e {
   joined = no_links;
@@ -241,6 +244,7 @@ emptied e = record e {
 abbrev pub begins_anew : End → End
 begins_anew e = record (emptied e) { drawn = 0; boots = e.boots + 1 }
 
+-- The first end begins anew, and with it the bundle at both ends.
 abbrev pub reboots : Pair → Pair
 reboots p = record { a = begins_anew p.a; b = emptied p.b }
 
