@@ -48,6 +48,7 @@ other_grows e f f' g h = record {
   waits = h.waits;
   unwaited = h.unwaited;
   there = h.there;
+  marked = h.marked;
   barred = h.barred;
   since = λ l b. g.joined l (h.since l b);
   unclosed = h.unclosed;
@@ -72,6 +73,7 @@ gets_keeps e f p s h = record {
   waits = h.waits;
   unwaited = λ x y before acked wait. h.unwaited x y before acked (record { request = wait.request; waits = wait.waits; key = wait.key });
   there = h.there;
+  marked = h.marked;
   barred = h.barred;
   since = h.since;
   unclosed = h.unclosed;

@@ -54,6 +54,7 @@ pub record Half (e f : End) : Type 0 where
   pub waits : (w : Waiting) → e.waiting ≡ Some w → w.ordinal ≤ e.drawn
   pub unwaited : (p q : Key) → IsBefore q p e.past → HasAcked p e.past → Waits e q → ⊥
   pub there : (w : Waiting) (l : ℕ) → e.waiting ≡ Some w → w.what ≡ Drop l → e.joined l ≡ true
+  pub marked : (l : ℕ) → e.marked l ≡ true → e.joined l ≡ true
   pub barred : (l : ℕ) → e.barred l ≡ true → e.joined l ≡ false
   pub since : (l : ℕ) → e.barred l ≡ true → f.joined l ≡ true
   pub unclosed : (l : ℕ) → e.joined l ≡ true → e.marked l ≡ false → e.closed l ≡ false

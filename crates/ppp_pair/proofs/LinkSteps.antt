@@ -101,6 +101,7 @@ leaves_keeps s l h =
         there = λ w m x d.
             let left = left_waits l e.waiting w x in
             link_else e.joined l false m (left.other m d) ∙ mine.there w m left.was d;
+        marked = λ m k. let was = else_of e.marked l m k in link_else e.joined l false m was.0 ∙ mine.marked m was.1;
         barred = λ m b. (leaving_barred l e f mine m b).0;
         since = λ m b. (leaving_barred l e f mine m b).1;
         unclosed = λ m j k. let was = else_of e.joined l m j in mine.unclosed m was.1 (sym (link_else e.marked l false m was.0) ∙ k);
@@ -112,6 +113,7 @@ leaves_keeps s l h =
         waits = other.waits;
         unwaited = λ p q before acked wait. other.unwaited p q before acked (record { request = wait.request; waits = wait.waits; key = wait.key });
         there = other.there;
+        marked = other.marked;
         barred = λ m b. other.barred m (else_of f.barred l m b).1;
         since = λ m b. let was = else_of f.barred l m b in link_else e.joined l false m was.0 ∙ other.since m was.1;
         unclosed = other.unclosed;
@@ -146,6 +148,7 @@ closed_keeps s l promised h =
         waits = other.waits;
         unwaited = λ p q before acked wait. other.unwaited p q before acked (record { request = wait.request; waits = wait.waits; key = wait.key });
         there = other.there;
+        marked = other.marked;
         barred = other.barred;
         since = other.since;
         unclosed = λ m j k. ⊎_elim
@@ -166,25 +169,33 @@ closes_keeps s l held h =
 -- ---- a link joins
 
 abbrev joining : ℕ → End → End
-joining l e = record e { joined = with_link e.joined l true; closed = with_link e.closed l false }
+joining l e = record e { joined = with_link e.joined l true; marked = with_link e.marked l false; closed = with_link e.closed l false }
 
-joining_more : (e : End) (l : ℕ) → Grows e (joining l e)
-joining_more e l = record {
+-- a link that isn't joined isn't marked, so what is marked stays so
+joining_marked : (e f : End) (l : ℕ) → e.joined l ≡ false → Half e f → (m : ℕ) → e.marked m ≡ true → (joining l e).marked m ≡ true
+joining_marked e f l out h m k = ⊎_elim
+    (λ (same : m ≡ l). absurd (both_ways (e.joined m) (subst (λ n. e.joined n ≡ false) (sym same) out) (h.marked m k)))
+    (λ n. link_else e.marked l false m n ∙ k) (cases_eq m l)
+
+joining_more : (e f : End) (l : ℕ) → e.joined l ≡ false → Half e f → Grows e (joining l e)
+joining_more e f l out h = record {
   boots = refl;
   drawn = omega arith;
   waits = λ w h. h;
   acked = λ k h. h;
-  held = λ m h. h;
-  joined = λ m h. link_more e.joined l m h;
+  held = λ m held. ⊎_elim (λ marked. inl (joining_marked e f l out h m marked)) (λ barred. inr barred) held;
+  joined = λ m has. link_more e.joined l m has;
 }
 
-joining_closed : (e f : End) (l : ℕ) → Half e f → (m : ℕ) → (joining l e).joined m ≡ true → e.marked m ≡ false → (joining l e).closed m ≡ false
+joining_closed : (e f : End) (l : ℕ) → Half e f → (m : ℕ) → (joining l e).joined m ≡ true → (joining l e).marked m ≡ false →
+    (joining l e).closed m ≡ false
 joining_closed e f l h m j k = ⊎_elim
     (λ (same : m ≡ l). subst (λ n. with_link e.closed l false n ≡ false) (sym same) (link_at e.closed l false))
-    (λ n. link_else e.closed l false m n ∙ h.unclosed m (sym (link_else e.joined l true m n) ∙ j) k) (cases_eq m l)
+    (λ n. link_else e.closed l false m n ∙ h.unclosed m (sym (link_else e.joined l true m n) ∙ j) (sym (link_else e.marked l false m n) ∙ k))
+    (cases_eq m l)
 
-pub joins_keeps : (s : Pair) (l : ℕ) → s.a.barred l ≡ false → Holds s → Holds (joins l s)
-joins_keeps s l free h =
+pub joins_keeps : (s : Pair) (l : ℕ) → s.a.joined l ≡ false → s.a.barred l ≡ false → Holds s → Holds (joins l s)
+joins_keeps s l out free h =
     let e = s.a in
     let mine = h.of_a in
     record {
@@ -193,15 +204,16 @@ joins_keeps s l free h =
         waits = mine.waits;
         unwaited = λ p q before acked wait. mine.unwaited p q before acked (record { request = wait.request; waits = wait.waits; key = wait.key });
         there = λ w m x d. link_more e.joined l m (mine.there w m x d);
+        marked = λ m k. let was = else_of e.marked l m k in link_more e.joined l m (mine.marked m was.1);
         barred = λ m b. ⊎_elim
             (λ (same : m ≡ l). absurd (both_ways (e.barred m) (subst (λ n. e.barred n ≡ false) (sym same) free) b))
             (λ n. link_else e.joined l true m n ∙ mine.barred m b) (cases_eq m l);
         since = mine.since;
         unclosed = joining_closed e s.b l mine;
         granted = mine.granted;
-        coming = coming_grows e s.b (joining l e) s.b (joining_more e l) (grows_not s.b) e.coming mine.coming;
+        coming = coming_grows e s.b (joining l e) s.b (joining_more e s.b l out mine) (grows_not s.b) e.coming mine.coming;
       };
-      of_b = other_grows s.b e (joining l e) (joining_more e l) h.of_b;
+      of_b = other_grows s.b e (joining l e) (joining_more e s.b l out mine) h.of_b;
       free = h.free;
     }
 
@@ -221,6 +233,7 @@ reboots_keeps s h = record {
     waits = λ w x. absurd (no_waits w x);
     unwaited = λ p q before acked wait. no_waits wait.request wait.waits;
     there = λ w l x d. absurd (no_waits w x);
+    marked = λ l m. absurd (false≢true m);
     barred = λ l b. refl;
     since = λ l b. absurd (false≢true b);
     unclosed = λ l j m. refl;
@@ -232,6 +245,7 @@ reboots_keeps s h = record {
     waits = λ w x. absurd (no_waits w x);
     unwaited = λ p q before acked wait. no_waits wait.request wait.waits;
     there = λ w l x d. absurd (no_waits w x);
+    marked = λ l m. absurd (false≢true m);
     barred = λ l b. refl;
     since = λ l b. absurd (false≢true b);
     unclosed = λ l j m. refl;

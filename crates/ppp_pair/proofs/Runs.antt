@@ -72,13 +72,13 @@ takes_if : (s : Pair) (n : ℕ) (t : ResponseType) (code : ResponseCode) → Hol
 takes_if s n t code h true sent = takes_keeps s n t code (packet_all (IsSound s.a s.b) (Response n t code) s.a.coming h.of_a.coming sent) h
 takes_if s n t code h false sent = h
 
-or_none : (x y : Bool) → (x || y) ≡ false → y ≡ false
+or_none : (x y : Bool) → (x || y) ≡ false → (x ≡ false) × (y ≡ false)
 or_none true y h = absurd (true≢false h)
-or_none false y h = h
+or_none false y h = (refl, h)
 
 joins_if : (s : Pair) (l : ℕ) → Holds s → (b : Bool) → (s.a.joined l || s.a.barred l) ≡ b → Holds (if b then s else joins l s)
 joins_if s l h true is = h
-joins_if s l h false is = joins_keeps s l (or_none (s.a.joined l) (s.a.barred l) is) h
+joins_if s l h false is = let none = or_none (s.a.joined l) (s.a.barred l) is in joins_keeps s l none.0 none.1 h
 
 leaves_if : (s : Pair) (l : ℕ) → Holds s → (b : Bool) → Holds (if b then leaves l s else s)
 leaves_if s l h true = leaves_keeps s l h
@@ -119,6 +119,7 @@ half_begun = record {
   waits = λ w x. absurd (none_waits w x);
   unwaited = λ p q before acked wait. none_waits wait.request wait.waits;
   there = λ w l x d. absurd (none_waits w x);
+  marked = λ l m. absurd (true≢false (sym m));
   barred = λ l b. refl;
   since = λ l b. absurd (true≢false (sym b));
   unclosed = λ l j m. refl;

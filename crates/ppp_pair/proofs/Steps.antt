@@ -1,15 +1,15 @@
 -- Each step of an end keeps the invariant.
 use Rattle.std.proofs.Common.{◌≡◌, ◌∙◌, ◌+◌, ℕ, Bool, true, false, not, ◌∷◌, Option, Some, None, inl, inr, ⊎_elim, ap, refl, sym, subst, arith}
 use Rattle.std.specs.Prelude.{is_some}
-use Rattle.std.proofs.lemmas.Bool.{and_parts, both_ways, cases_Bool, false≢true}
+use Rattle.std.proofs.lemmas.Bool.{and_parts, both_ways, cases_Bool, cases_eq, false≢true}
 use Rattle.ppp_bap.specs.declared.bap_ask.BapAsk.{BapAsk}
 use Rattle.ppp_bap.specs.declared.bap_ask.BapAsk.TheVariants.{Call, Callback, Drop}
 use Rattle.ppp_pair.specs.Crossing.{IsBefore}
-use Rattle.ppp_pair.specs.Pair.{Asked, Deed, End, Granted, Key, Packet, Pair, Request, Response, Took, Waiting, answers, asks, asks_again, does, draws, ends_wait, grants, is_coming, is_waiting, key_of, may_answer, may_ask, promised}
-use Rattle.ppp_pair.specs.Response.{ResponseCode, Ack, response_type}
+use Rattle.ppp_pair.specs.Pair.{Asked, Deed, End, Granted, Key, Packet, Pair, Request, Response, Took, Waiting, answers, asks, asks_again, does, draws, ends_wait, grants, has_staying, is_coming, is_waiting, key_of, may_answer, may_ask, promised}
+use Rattle.ppp_pair.specs.Response.{Ack, FullNak, Nak, Rej, ResponseCode, response_type}
 use Rattle.ppp_pair.proofs.Growth.{Grows, coming_grows, grows_not, other_grows, sends_keeps}
 use Rattle.ppp_pair.proofs.Invariant.{HasAcked, Half, Holds, IsDrawn, IsOwn, IsSound, Waits}
-use Rattle.ppp_pair.proofs.LinkLemmas.{link_at, promised_more}
+use Rattle.ppp_pair.proofs.LinkLemmas.{link_at, link_else, promised_more}
 use Rattle.ppp_pair.proofs.PacketLemmas.{all_weaker, packet_all}
 use Rattle.ppp_pair.proofs.PastLemmas.{before_asked, before_cases, before_other, free_asked, free_granted, free_took, has_cases, has_here, has_more, has_other}
 
@@ -40,6 +40,7 @@ draws_keeps s h =
         waits = λ w x. omega (arith, mine.waits w x);
         unwaited = λ p q before acked wait. mine.unwaited p q before acked (record { request = wait.request; waits = wait.waits; key = wait.key });
         there = mine.there;
+        marked = mine.marked;
         barred = mine.barred;
         since = mine.since;
         unclosed = mine.unclosed;
@@ -74,6 +75,7 @@ ends_keeps s h =
         waits = λ w x. absurd (none_waits w x);
         unwaited = λ p q before acked wait. none_waits wait.request wait.waits;
         there = λ w l x d. absurd (none_waits w x);
+        marked = mine.marked;
         barred = mine.barred;
         since = mine.since;
         unclosed = mine.unclosed;
@@ -184,6 +186,7 @@ asking_keeps s what may h =
         waits = λ w x. omega (arith, (asking_waits e what w x).0);
         unwaited = asking_unwaited e f what mine;
         there = λ w l x d. may_ask_of what e l may (sym (asking_waits e what w x).1 ∙ d);
+        marked = mine.marked;
         barred = mine.barred;
         since = mine.since;
         unclosed = mine.unclosed;
@@ -195,6 +198,7 @@ asking_keeps s what may h =
         waits = other.waits;
         unwaited = other.unwaited;
         there = other.there;
+        marked = other.marked;
         barred = other.barred;
         since = other.since;
         unclosed = other.unclosed;
@@ -252,6 +256,18 @@ unmarked_before : (what : BapAsk) (code : ResponseCode) (marked : ℕ → Bool) 
 unmarked_before what code marked l h =
     ⊎_elim (λ is. absurd (both_ways (promised what code marked l) h (promised_more what code marked l is))) (λ not. not) (cases_Bool (marked l))
 
+-- what is marked then is joined
+answering_marked : (e f : End) (what : BapAsk) (code : ResponseCode) (l : ℕ) → may_answer what code e ≡ true → Half e f →
+    promised what code e.marked l ≡ true → e.joined l ≡ true
+answering_marked e f Call code l may h m = h.marked l m
+answering_marked e f Callback code l may h m = h.marked l m
+answering_marked e f (Drop k) Ack l may h m = ⊎_elim
+    (λ (same : l ≡ k). subst (λ x. e.joined x ≡ true) (sym same) (and_parts (e.joined k) (has_staying k e) (and_parts _ _ may).1).0)
+    (λ n. h.marked l (sym (link_else e.marked k true l n) ∙ m)) (cases_eq l k)
+answering_marked e f (Drop k) Nak l may h m = h.marked l m
+answering_marked e f (Drop k) Rej l may h m = h.marked l m
+answering_marked e f (Drop k) FullNak l may h m = h.marked l m
+
 answering_keeps : (s : Pair) (k : Key) (what : BapAsk) (code : ResponseCode) → may_answer what code s.a ≡ true → Holds s → Holds (record s { a = answering s.a k what code })
 answering_keeps s k what code may h =
     let e = s.a in
@@ -264,6 +280,7 @@ answering_keeps s k what code may h =
         waits = mine.waits;
         unwaited = answering_unwaited e f k what code may mine;
         there = mine.there;
+        marked = λ l m. answering_marked e f what code l may mine m;
         barred = mine.barred;
         since = mine.since;
         unclosed = λ l j m. mine.unclosed l j (unmarked_before what code e.marked l m);
@@ -327,6 +344,7 @@ grants_keeps s w x acked h =
         waits = λ v y. absurd (none_waits v y);
         unwaited = λ p q before took wait. none_waits wait.request wait.waits;
         there = λ v l y d. absurd (none_waits v y);
+        marked = mine.marked;
         barred = mine.barred;
         since = mine.since;
         unclosed = mine.unclosed;

@@ -221,11 +221,12 @@ abbrev pub takes_response : Option Waiting → ℕ → ResponseType → Response
 takes_response None n t code p = p
 takes_response (Some w) n t code p = if is_response_to w n t then hears w code p else p
 
--- A link joins, and whatever closed it before is forgotten.
+-- A link joins, unmarked, and whatever closed it before is forgotten.
 abbrev pub joins : ℕ → Pair → Pair
 joins l p = record p {
   a = record p.a {
     joined = with_link p.a.joined l true;
+    marked = with_link p.a.marked l false;
     closed = with_link p.a.closed l false;
   };
 }
