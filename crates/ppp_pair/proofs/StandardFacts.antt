@@ -136,7 +136,7 @@ abbrev call_waits : Pair
 call_waits = record start {
   a = record start.a {
     waiting = Some (record { ordinal = 1; what = Call });
-    coming = Response 1 DropResponse Ack ∷ Response 1 CallResponse Rej ∷ [];
+    coming = Response 1 DropResponse Ack ∷ Response 1 CallResponse Rej ∷ Response 1 CallResponse Nak ∷ [];
   };
 }
 
@@ -147,6 +147,10 @@ other_type = refl
 own_type : (at_first call_waits (TakesResponse 1 CallResponse Rej)).a.waiting ≡ None
 unfolding at_first
 own_type = refl
+
+nak_ends : (at_first call_waits (TakesResponse 1 CallResponse Nak)).a.waiting ≡ None
+unfolding at_first
+nak_ends = refl
 
 -- What wasn't sent doesn't come.
 never_sent : at_first call_waits (TakesResponse 1 CallResponse Ack) ≡ call_waits
