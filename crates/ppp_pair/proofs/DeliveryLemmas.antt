@@ -140,11 +140,13 @@ module _ (xs ys : List Packet) where
     by true = hears_goes s w code c
     by false = same_goes s c
 
-  joins_goes : (s : Pair) (l : ℕ) → Covered s → (b : Bool) → Goes (if b then s else joins l s) (if b then with_coming s xs ys else joins l (with_coming s xs ys))
+  joins_goes : (s : Pair) (l : ℕ) → Covered s → (b : Bool) →
+      Goes (if b then s else joins l s) (if b then with_coming s xs ys else joins l (with_coming s xs ys))
   joins_goes s l c true = same_goes s c
   joins_goes s l c false = record { to_a = xs; to_b = ys; is = refl; covers_a = c.0; covers_b = c.1 }
 
-  leaves_goes : (s : Pair) (l : ℕ) → Covered s → (b : Bool) → Goes (if b then leaves l s else s) (if b then leaves l (with_coming s xs ys) else with_coming s xs ys)
+  leaves_goes : (s : Pair) (l : ℕ) → Covered s → (b : Bool) →
+      Goes (if b then leaves l s else s) (if b then leaves l (with_coming s xs ys) else with_coming s xs ys)
   leaves_goes s l c true = record { to_a = xs; to_b = ys; is = refl; covers_a = c.0; covers_b = c.1 }
   leaves_goes s l c false = same_goes s c
 
@@ -152,7 +154,8 @@ module _ (xs ys : List Packet) where
   request_goes : (s : Pair) (n : ℕ) (what : BapAsk) (code : ResponseCode) → Covered s → is_coming (Request n what) s.a ≡ true →
       Goes (at_first s (TakesRequest n what code)) (at_first (with_coming s xs ys) (TakesRequest n what code))
   unfolding at_first
-  request_goes s n what code c sent = rw (sent, c.0 (Request n what) sent, answered_same what code s.a xs) (answers_goes s n what code c (may_answer what code s.a))
+  request_goes s n what code c sent =
+      rw (sent, c.0 (Request n what) sent, answered_same what code s.a xs) (answers_goes s n what code c (may_answer what code s.a))
 
   response_goes : (s : Pair) (n : ℕ) (t : ResponseType) (code : ResponseCode) → Covered s → is_coming (Response n t code) s.a ≡ true →
       Goes (at_first s (TakesResponse n t code)) (at_first (with_coming s xs ys) (TakesResponse n t code))
@@ -276,7 +279,8 @@ closing_once : (s q : Pair) (n l : ℕ) → Goes s q → Holds q → IsClosing s
 closing_once s q n l g h c =
     let more : Pair = with_coming s g.to_a g.to_b in
     let holds : Holds more = subst (λ x. Holds x) g.is h in
-    let kept : IsKept more l = closing_kept more n l holds (record { waits = c.waits; granted = g.covers_a (Response n DropResponse Ack) c.granted; stays = c.stays }) in
+    let kept : IsKept more l =
+    closing_kept more n l holds (record { waits = c.waits; granted = g.covers_a (Response n DropResponse Ack) c.granted; stays = c.stays }) in
     record { link = kept.link; other = kept.other; joined = kept.joined; unmarked = kept.unmarked; unclosed = kept.unclosed }
 
 pub kept_once : KeptOnce

@@ -68,7 +68,8 @@ sound_to_leaving l e f (Response n t code) h = record {
 -- a link held at an end that it leaves stays held where the other end has it
 held_leaving : (l : ℕ) (e f : End) (m : ℕ) → f.joined m ≡ true → IsHeld e m → IsHeld (leaving l e f) m
 held_leaving l e f m has held = ⊎_elim
-    (λ (same : m ≡ l). inr (subst (λ k. with_link e.barred l (f.joined l) k ≡ true) (sym same) (link_at e.barred l (f.joined l) ∙ subst (λ k. f.joined k ≡ true) same has)))
+    (λ (same : m ≡ l). inr (subst (λ k. with_link e.barred l (f.joined l) k ≡ true) (sym same)
+    (link_at e.barred l (f.joined l) ∙ subst (λ k. f.joined k ≡ true) same has)))
     (λ n. ⊎_elim (λ marked. inl (link_else e.marked l false m n ∙ marked)) (λ barred. inr (link_else e.barred l (f.joined l) m n ∙ barred)) held)
     (cases_eq m l)
 
@@ -136,7 +137,8 @@ closed_more f l = record {
 }
 
 -- where the other end has it, that promised it
-closed_keeps : (s : Pair) (l : ℕ) → (s.b.joined l ≡ true → s.b.marked l ≡ true) → Holds s → Holds (record s { b = record s.b { closed = with_link s.b.closed l true } })
+closed_keeps : (s : Pair) (l : ℕ) → (s.b.joined l ≡ true → s.b.marked l ≡ true) → Holds s →
+    Holds (record s { b = record s.b { closed = with_link s.b.closed l true } })
 closed_keeps s l promised h =
     let f = s.b in
     let f' : End = record f { closed = with_link f.closed l true } in

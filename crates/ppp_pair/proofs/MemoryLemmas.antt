@@ -37,8 +37,10 @@ same_both s h = record { of_a = unchanged s.a s.b h.of_a; of_b = unchanged s.b s
 -- only the links tell
 like_both : (s s' t : Pair) → s'.a.joined ≡ t.a.joined → s'.a.barred ≡ t.a.barred → s'.b.joined ≡ t.b.joined → s'.b.barred ≡ t.b.barred → Both s t → Both s s'
 like_both s s' t ja ba jb bb h = record {
-  of_a = λ l out. ap (λ (f : ℕ → Bool). f l) ba ∙ h.of_a l (ap (λ (f : ℕ → Bool). f l) (sym ja) ∙ out) ∙ ap (λ (f : ℕ → Bool). f l && (s.a.joined l || s.a.barred l)) (sym jb);
-  of_b = λ l out. ap (λ (f : ℕ → Bool). f l) bb ∙ h.of_b l (ap (λ (f : ℕ → Bool). f l) (sym jb) ∙ out) ∙ ap (λ (f : ℕ → Bool). f l && (s.b.joined l || s.b.barred l)) (sym ja);
+  of_a = λ l out. ap (λ (f : ℕ → Bool). f l) ba ∙ h.of_a l (ap (λ (f : ℕ → Bool). f l) (sym ja) ∙ out) ∙
+      ap (λ (f : ℕ → Bool). f l && (s.a.joined l || s.a.barred l)) (sym jb);
+  of_b = λ l out. ap (λ (f : ℕ → Bool). f l) bb ∙ h.of_b l (ap (λ (f : ℕ → Bool). f l) (sym jb) ∙ out) ∙
+      ap (λ (f : ℕ → Bool). f l && (s.b.joined l || s.b.barred l)) (sym ja);
 }
 
 -- a link leaves
@@ -56,7 +58,8 @@ leaves_both s l has h = record { of_a = mine; of_b = other } where
   other : Remembers s.b (leaves l s).b (leaves l s).a
   other m out = ⊎_elim
       (λ (same : m ≡ l). rw same (link_at s.b.barred l false ∙ rw (link_at s.a.joined l false) refl))
-      (λ n. link_else s.b.barred l false m n ∙ unchanged s.b s.a h.of_b m out ∙ ap (λ (x : Bool). x && (s.b.joined m || s.b.barred m)) (sym (link_else s.a.joined l false m n)))
+      (λ n. link_else s.b.barred l false m n ∙ unchanged s.b s.a h.of_b m out ∙
+      ap (λ (x : Bool). x && (s.b.joined m || s.b.barred m)) (sym (link_else s.a.joined l false m n)))
       (cases_eq m l)
 
 -- a link joins
@@ -64,7 +67,8 @@ joins_both : (s : Pair) (l : ℕ) → Holds s → Both s (joins l s)
 joins_both s l h = record { of_a = mine; of_b = other } where
   mine : Remembers s.a (joins l s).a (joins l s).b
   mine m out = ⊎_elim
-      (λ (same : m ≡ l). absurd (both_ways (with_link s.a.joined l true m) out (subst (λ k. with_link s.a.joined l true k ≡ true) (sym same) (link_at s.a.joined l true))))
+      (λ (same : m ≡ l). absurd (both_ways (with_link s.a.joined l true m) out
+      (subst (λ k. with_link s.a.joined l true k ≡ true) (sym same) (link_at s.a.joined l true))))
       (λ n. unchanged s.a s.b h.of_a m (sym (link_else s.a.joined l true m n) ∙ out)) (cases_eq m l)
 
   other : Remembers s.b (joins l s).b (joins l s).a
@@ -89,7 +93,8 @@ hears_both s w Nak x h = like_both s (hears w Nak s) s refl refl refl refl (same
 hears_both s w Rej x h = like_both s (hears w Rej s) s refl refl refl refl (same_both s h)
 hears_both s w FullNak x h = like_both s (hears w FullNak s) s refl refl refl refl (same_both s h)
 
-takes_both : (s : Pair) (n : ℕ) (t : ResponseType) (code : ResponseCode) → Holds s → (o : Option Waiting) → s.a.waiting ≡ o → Both s (takes_response o n t code s)
+takes_both : (s : Pair) (n : ℕ) (t : ResponseType) (code : ResponseCode) → Holds s → (o : Option Waiting) → s.a.waiting ≡ o →
+    Both s (takes_response o n t code s)
 takes_both s n t code h None x = same_both s h
 takes_both s n t code h (Some w) x = by (is_response_to w n t) where
   by : (b : Bool) → Both s (if b then hears w code s else s)
@@ -108,7 +113,8 @@ answers_both : (s : Pair) (n : ℕ) (what : BapAsk) (code : ResponseCode) → Ho
 answers_both s n what code h true = like_both s (answers n what code s) s refl refl refl refl (same_both s h)
 answers_both s n what code h false = same_both s h
 
-comes_both : (s : Pair) (n : ℕ) (t : ResponseType) (code : ResponseCode) → Holds s → (b : Bool) → Both s (if b then takes_response s.a.waiting n t code s else s)
+comes_both : (s : Pair) (n : ℕ) (t : ResponseType) (code : ResponseCode) → Holds s → (b : Bool) →
+    Both s (if b then takes_response s.a.waiting n t code s else s)
 comes_both s n t code h true = takes_both s n t code h s.a.waiting refl
 comes_both s n t code h false = same_both s h
 

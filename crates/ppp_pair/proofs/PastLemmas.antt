@@ -37,7 +37,8 @@ pub before_other : (p q : Key) (d : Deed) (past : List Deed) → ¬ (d ≡ Asked
 before_other p q d past not h = ⊎_elim (λ k. absurd (not k.0)) (λ k. k) (before_cases p q d past h)
 
 pub before_asked : (p q : Key) (past : List Deed) → IsBefore p q past → Contains past (Asked p)
-before_asked p q past h = subst (λ x. Contains x (Asked p)) (sym h.sent) (Contains-append_right h.since (Asked p ∷ h.before) (Asked p) (has_here (Asked p) h.before))
+before_asked p q past h =
+    subst (λ x. Contains x (Asked p)) (sym h.sent) (Contains-append_right h.since (Asked p ∷ h.before) (Asked p) (has_here (Asked p) h.before))
 
 -- ---- no two that cross are both granted
 

@@ -10,7 +10,8 @@ use Rattle.ppp_pair.proofs.PastLemmas.{has_here}
 pub once_granted : IsOnceGranted
 unfolding at_first with_link some_link
 once_granted = record {
-  events = record { side = A; what = Asks Call } ∷ record { side = B; what = TakesRequest 1 Call Ack } ∷ record { side = A; what = TakesResponse 1 CallResponse Ack } ∷ [];
+  events = record { side = A; what = Asks Call } ∷ record { side = B; what = TakesRequest 1 Call Ack } ∷
+      record { side = A; what = TakesResponse 1 CallResponse Ack } ∷ [];
   key = record { boots = 0; ordinal = 1 };
   granted = has_here (Granted (record { boots = 0; ordinal = 1 })) (Asked (record { boots = 0; ordinal = 1 }) ∷ []);
 }
@@ -18,7 +19,8 @@ once_granted = record {
 pub once_closed : IsOnceClosed
 unfolding at_first with_link some_link
 once_closed = record {
-  events = record { side = A; what = Joins 1 } ∷ record { side = A; what = Joins 2 } ∷ record { side = B; what = Joins 1 } ∷ record { side = B; what = Joins 2 } ∷
+  events = record { side = A; what = Joins 1 } ∷ record { side = A; what = Joins 2 } ∷
+      record { side = B; what = Joins 1 } ∷ record { side = B; what = Joins 2 } ∷
       record { side = A; what = Asks (Drop 1) } ∷ record { side = B; what = TakesRequest 1 (Drop 1) Ack } ∷ [];
   ordinal = 1;
   link = 1;

@@ -31,7 +31,8 @@ follows_keeps s w (Drop l) x is sound h = by (has_staying l (grants w s).a) wher
   by false = granted
 
 -- a sound response to the request that waits is one of its Type
-sound_typed : (s : Pair) (w : Waiting) (n : ℕ) (t : ResponseType) (code : ResponseCode) → s.a.waiting ≡ Some w → w.ordinal ≡ n → IsResponseSound s.a s.b n t code →
+sound_typed : (s : Pair) (w : Waiting) (n : ℕ) (t : ResponseType) (code : ResponseCode) → s.a.waiting ≡ Some w → w.ordinal ≡ n →
+    IsResponseSound s.a s.b n t code →
     IsResponseSound s.a s.b w.ordinal (response_type w.what) code
 sound_typed s w n t code x o sound =
     let at : IsResponseSound s.a s.b w.ordinal t code = subst (λ m. IsResponseSound s.a s.b m t code) (sym o) sound in
@@ -44,7 +45,8 @@ hears_keeps s w Nak x sound h = ends_keeps s h
 hears_keeps s w Rej x sound h = ends_keeps s h
 hears_keeps s w FullNak x sound h = ends_keeps s h
 
-takes_keeps : (s : Pair) (n : ℕ) (t : ResponseType) (code : ResponseCode) → IsResponseSound s.a s.b n t code → Holds s → Holds (takes_response s.a.waiting n t code s)
+takes_keeps : (s : Pair) (n : ℕ) (t : ResponseType) (code : ResponseCode) → IsResponseSound s.a s.b n t code → Holds s →
+    Holds (takes_response s.a.waiting n t code s)
 takes_keeps s n t code sound h = by s.a.waiting refl where
   one : (w : Waiting) (b : Bool) → s.a.waiting ≡ Some w → is_response_to w n t ≡ b → Holds (if b then hears w code s else s)
   one w true x is = hears_keeps s w code x (sound_typed s w n t code x (matches_ordinal w n t is) sound) h

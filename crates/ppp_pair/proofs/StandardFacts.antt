@@ -106,7 +106,8 @@ abbrev crossing_run : List Event
 crossing_run = two_links ++ event A (Asks (Drop 1)) ∷ event B (Asks (Drop 2)) ∷ []
 
 -- One request waits at most: another isn't sent, whatever it asks.
-one_waits : (after (crossing_run ++ event A (Asks Call) ∷ []) ≡ after crossing_run) × (after (crossing_run ++ event A (Asks (Drop 2)) ∷ []) ≡ after crossing_run)
+one_waits : (after (crossing_run ++ event A (Asks Call) ∷ []) ≡ after crossing_run) ×
+    (after (crossing_run ++ event A (Asks (Drop 2)) ∷ []) ≡ after crossing_run)
 unfolding at_first with_link some_link
 one_waits = (refl, refl)
 

@@ -141,7 +141,8 @@ asking_drawn e f what h k own = by own where
       (λ was. old (inl was)) (has_cases (Asked (key_of e (e.drawn + 1))) e.past (Asked k) is)
   by (inr is) = old (inr (has_other (Asked (key_of e (e.drawn + 1))) e.past (Granted k) (λ x. cc) is))
 
-asking_unwaited : (e f : End) (what : BapAsk) → Half e f → (p q : Key) → IsBefore q p (asking e what).past → HasAcked p (asking e what).past → Waits (asking e what) q → ⊥
+asking_unwaited : (e f : End) (what : BapAsk) → Half e f → (p q : Key) → IsBefore q p (asking e what).past →
+    HasAcked p (asking e what).past → Waits (asking e what) q → ⊥
 asking_unwaited e f what h p q before acked wait =
     let was = has_other (Asked (key_of e (e.drawn + 1))) e.past (Took p Ack) (λ x. cc) acked in
     ⊎_elim (λ now. now.1 (record { code = Ack; took = was }))
@@ -268,7 +269,8 @@ answering_marked e f (Drop k) Nak l may h m = h.marked l m
 answering_marked e f (Drop k) Rej l may h m = h.marked l m
 answering_marked e f (Drop k) FullNak l may h m = h.marked l m
 
-answering_keeps : (s : Pair) (k : Key) (what : BapAsk) (code : ResponseCode) → may_answer what code s.a ≡ true → Holds s → Holds (record s { a = answering s.a k what code })
+answering_keeps : (s : Pair) (k : Key) (what : BapAsk) (code : ResponseCode) → may_answer what code s.a ≡ true → Holds s →
+    Holds (record s { a = answering s.a k what code })
 answering_keeps s k what code may h =
     let e = s.a in
     let f = s.b in
