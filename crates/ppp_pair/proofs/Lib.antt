@@ -1,0 +1,14 @@
+mod CloseLemmas
+mod DeliveryLemmas
+mod Growth
+mod Invariant
+mod LinkLemmas
+mod LinkSteps
+mod MatchLemmas
+mod MemoryLemmas
+mod PacketLemmas
+mod PastLemmas
+mod PossibilityLemmas
+mod Runs
+mod StandardFacts
+mod Steps
