@@ -1,0 +1,4 @@
+pub mod BeginsLemmas
+pub mod FragmentsLemmas
+pub mod PassageLemmas
+pub mod SettlementLemmas
