@@ -1,4 +1,6 @@
+pub mod BatchLemmas
 pub mod BeginsLemmas
+pub mod FragmenterLemmas
 pub mod FragmentsLemmas
 pub mod PassageLemmas
 pub mod SettlementLemmas

@@ -1,5 +1,9 @@
+pub mod Batch
 pub mod Begins
 pub mod Class
+pub mod FragmentOut
+pub mod Fragmenter
 pub mod Fragments
+pub mod Header
 pub mod Passage
 pub mod Settlement

@@ -1,8 +1,18 @@
 //! Multilink fragments in classes (RFC 1990, RFC 2686).
 #![tactic(auto)]
 
+mod batch;
+mod fragment_out;
+mod fragmenter;
+mod header;
 mod laws;
 mod limits;
 
+pub use fragment_out::FragmentOut;
+pub use fragmenter::Fragmenter;
+pub use header::{Header, read_header};
 pub use laws::{begun, in_order};
-pub use limits::{LONG_CLASSES, LONG_SPACE, MOST_HELD, MOST_LINKS, SHORT_CLASSES, SHORT_SPACE};
+pub use limits::{
+    CLASSES, LONG_CLASSES, LONG_SPACE, MOST_HELD, MOST_LINKS, MOST_PACKET, SHORT_CLASSES,
+    SHORT_SPACE,
+};

@@ -17,3 +17,9 @@ pub const MOST_LINKS: usize = 16;
 
 /// The most fragments that a class holds, and the most that a packet is cut into.
 pub const MOST_HELD: usize = 256;
+
+/// The most octets of a packet that is cut: those of a protocol, and of the most information.
+pub const MOST_PACKET: usize = 8194;
+
+/// How many classes have numbers.
+pub const CLASSES: usize = 16;
