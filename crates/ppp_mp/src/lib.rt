@@ -11,7 +11,7 @@ mod limits;
 pub use fragment_out::FragmentOut;
 pub use fragmenter::Fragmenter;
 pub use header::{Header, read_header};
-pub use laws::{begun, in_order};
+pub use laws::{begun, in_order, read_again};
 pub use limits::{
     CLASSES, LONG_CLASSES, LONG_SPACE, MOST_HELD, MOST_LINKS, MOST_PACKET, SHORT_CLASSES,
     SHORT_SPACE,
