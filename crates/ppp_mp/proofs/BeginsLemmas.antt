@@ -57,7 +57,7 @@ module _ (starts : List ℕ → Bool) (fronts : IsOfFronts starts) where
   at_first-so limit most n h hs all = go h.fragment.begins refl h.fragment.ends
     where
       go : (b : Bool) → h.fragment.begins ≡ b → (e : Bool) →
-          MoveSo (if not b then To (record { next = n + 1; held = hs }) [] else if e then To (record { next = n + 1; held = hs }) (given most h.fragment.payload) else by_run limit most (run_from (n + 1) h.fragment.payload hs))
+          MoveSo (if not b then To (record { next = n + 1; held = hs }) [] else by_run limit most (if e then Whole (n + 1) h.fragment.payload hs else run_from (n + 1) h.fragment.payload hs))
       go false is e = (all.1, tt)
       go true is true = (all.1, given-so most h.fragment.payload (all.0 is))
       go true is false = by_run-so limit most (run_from (n + 1) h.fragment.payload hs) (run-so hs (n + 1) h.fragment.payload (all.0 is) all.1)

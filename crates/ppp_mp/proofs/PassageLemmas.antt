@@ -9,9 +9,9 @@ use Rattle.ppp_mp.specs.Class.{Class, Shape, Took, ahead, discarded, held_as, is
 use Rattle.ppp_mp.specs.Fragments.{AreSome, Fragment, Numbered, fragments_of, packets, pieces}
 use Rattle.ppp_mp.specs.Passage.{Event, InOrder, IsNarrow, IsNear, IsNearNext, IsSpace, Passage, StaysNarrow, after, after_all, comes, numbered, unsent, with_took}
 use Rattle.ppp_mp.specs.Passage.Event.{Cut, Comes, Lost, Joins, Leaves, NewLife}
-use Rattle.ppp_mp.specs.Settlement.{Row, Settled, points_of, settle, settled}
+use Rattle.ppp_mp.specs.Settlement.{AreRising, Row, Settled, points_of, settle, settled}
 use Rattle.ppp_mp.proofs.FragmentsLemmas.{begun_by, cut-packets, done, done-all, done-later, more_from, packets-append, some-both, some-more}
-use Rattle.ppp_mp.proofs.SettlementLemmas.{AreOf, AreRising, Gave, GoodSettled, IsFrom, settle-good}
+use Rattle.ppp_mp.proofs.SettlementLemmas.{AreOf, Gave, GoodSettled, IsFrom, settle-good}
 
 -- ---- numbers
 
@@ -44,7 +44,7 @@ near-again space q n all (inr e) low whole near =
 above : (a b : ℕ) → a ≤ b → (a ≡ b → ⊥) → a + 1 ≤ b
 above a b le ne = omega arith
 
-put-rising : (h : Numbered) (n : ℕ) (held : List Numbered) → n ≤ h.number → is_held h.number held ≡ false → AreRising n held → AreRising n (put h held)
+pub put-rising : (h : Numbered) (n : ℕ) (held : List Numbered) → n ≤ h.number → is_held h.number held ≡ false → AreRising n held → AreRising n (put h held)
 put-rising h n [] low new rising = (low, tt)
 put-rising h n (x ∷ xs) low new rising =
     let parts = or_parts (x.number == h.number) (is_held h.number xs) new in
@@ -62,7 +62,7 @@ put-fits sent c h (x ∷ xs) own fits = go (nat_lt h.number x.number) (put-fits 
     go true rest = (own, fits)
     go false rest = (fits.0, rest)
 
-lowered-rising : (turns n : ℕ) (held : List Numbered) → turns ≤ n → AreRising n held → AreRising (n - turns) (map (lowered turns) held)
+pub lowered-rising : (turns n : ℕ) (held : List Numbered) → turns ≤ n → AreRising n held → AreRising (n - turns) (map (lowered turns) held)
 lowered-rising turns n [] low rising = tt
 lowered-rising turns n (x ∷ xs) low rising =
     let up = rising.0 in

@@ -4,15 +4,10 @@ use Rattle.std.specs.Prelude.{Some, nat_le, nat_lt, slice_get}
 use Rattle.std.proofs.lemmas.Bool.{eqb-true, eqb-false, ltb-true, not-true, not-false}
 use Rattle.std.proofs.lemmas.Option.{slice_get_within}
 use Rattle.ppp_mp.specs.Fragments.{AreSome, Fragment, Numbered}
-use Rattle.ppp_mp.specs.Settlement.{Move, Row, Run, Settled, at_first, by_run, given, least_held, move, moved, past_missing, points_of, run_from, settle, settled}
+use Rattle.ppp_mp.specs.Settlement.{AreRising, Move, Row, Run, Settled, at_first, by_run, given, least_held, move, moved, past_missing, points_of, run_from, settle, settled}
 use Rattle.ppp_mp.specs.Settlement.Run.{Whole, Again, Gap}
 use Rattle.ppp_mp.specs.Settlement.Move.{Still, To}
 use Rattle.ppp_mp.proofs.FragmentsLemmas.{alone-done, begun_at, done, done-later, first-begun, last-done, middle-begun, more_from, some-both, some-more, unended-done}
-
--- in ascending number, from n on
-abbrev pub AreRising : ℕ → List Numbered → Type 0
-AreRising n [] = Unit {0}
-AreRising n (h ∷ hs) = (n ≤ h.number) × AreRising (h.number + 1) hs
 
 -- each is a fragment that was sent, with its number less c
 abbrev pub AreOf : List Fragment → ℕ → List Numbered → Type 0
@@ -108,7 +103,7 @@ module _ (sent : List Fragment) (c : ℕ) where
           record { past = omega arith; within = omega arith; rising = subst (λ x. AreRising (x + 1) hs) same from.rising.1; fits = from.fits.1 }
 
       go : (b : Bool) → h.fragment.begins ≡ b → (e : Bool) → h.fragment.ends ≡ e →
-          GoodMove n (if not b then To (record { next = n + 1; held = hs }) [] else if e then To (record { next = n + 1; held = hs }) (given most h.fragment.payload) else by_run limit most (run_from (n + 1) h.fragment.payload hs))
+          GoodMove n (if not b then To (record { next = n + 1; held = hs }) [] else by_run limit most (if e then Whole (n + 1) h.fragment.payload hs else run_from (n + 1) h.fragment.payload hs))
       go false bs e es =
           let at : slice_get sent (n + c) ≡ Some h.fragment = subst (λ x. slice_get sent (x + c) ≡ Some h.fragment) same from.fits.0 in
           (behind at, gave-none n (n + 1) (omega arith))

@@ -1,3 +1,4 @@
+pub mod Area
 pub mod Batch
 pub mod Begins
 pub mod Class
@@ -6,4 +7,7 @@ pub mod Fragmenter
 pub mod Fragments
 pub mod Header
 pub mod Passage
+pub mod Search
 pub mod Settlement
+pub mod Store
+pub mod StoreCalls

@@ -1,5 +1,5 @@
 -- What a class settles: what it delivers and what it gives up (RFC 1990 section 4.1; the rule's points are this project's own).
-use Rattle.std.specs.Prelude.{ℕ, zero, suc, ◌+◌, ◌*◌, min, Bool, ◌==◌, not, if◌then◌else◌, nat_le, nat_lt, List, [], ◌∷◌, ◌++◌, length}
+use Rattle.std.specs.Prelude.{ℕ, zero, suc, ◌+◌, ◌*◌, ◌≤◌, min, Bool, ◌==◌, not, if◌then◌else◌, nat_le, nat_lt, List, [], ◌∷◌, ◌++◌, length}
 use Rattle.ppp_mp.specs.Fragments.{Numbered}
 
 -- the least number that isn't settled, and what is held from there on, in ascending number
@@ -39,12 +39,15 @@ by_run limit most (Whole past packet rest) = To (record { next = past; held = re
 by_run limit most (Again at rest) = To (record { next = at; held = rest }) []
 by_run limit most (Gap at rest) = if nat_lt at limit then To (record { next = at; held = rest }) [] else Still
 
+-- the run that a fragment of number n begins
+abbrev pub run_of : ℕ → Numbered → List Numbered → Run
+run_of n h hs =
+    if h.fragment.ends then Whole (n + 1) h.fragment.payload hs else run_from (n + 1) h.fragment.payload hs
+
 -- number n is held: it is dropped where it begins no packet
 abbrev pub at_first : ℕ → ℕ → ℕ → Numbered → List Numbered → Move
 at_first limit most n h hs =
-    if not h.fragment.begins then To (record { next = n + 1; held = hs }) []
-    else if h.fragment.ends then To (record { next = n + 1; held = hs }) (given most h.fragment.payload)
-    else by_run limit most (run_from (n + 1) h.fragment.payload hs)
+    if not h.fragment.begins then To (record { next = n + 1; held = hs }) [] else by_run limit most (run_of n h hs)
 
 -- number n is missing, and is given up below the limit: the next is the least one held, or the limit if that is less
 abbrev pub least_held : ℕ → List Numbered → ℕ
@@ -58,6 +61,11 @@ past_missing limit n held = if nat_lt n limit then To (record { next = least_hel
 abbrev pub move : ℕ → ℕ → ℕ → List Numbered → Move
 move limit most n [] = past_missing limit n []
 move limit most n (h ∷ hs) = if h.number == n then at_first limit most n h hs else past_missing limit n (h ∷ hs)
+
+-- in ascending number, from n on
+abbrev pub AreRising : ℕ → List Numbered → Type 0
+AreRising n [] = Unit {0}
+AreRising n (h ∷ hs) = (n ≤ h.number) × AreRising (h.number + 1) hs
 
 pub record Settled : Type 0 where
   pub row : Row

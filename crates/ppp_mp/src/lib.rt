@@ -1,12 +1,15 @@
 //! Multilink fragments in classes (RFC 1990, RFC 2686).
 #![tactic(auto)]
 
+mod area;
 mod batch;
 mod fragment_out;
 mod fragmenter;
 mod header;
 mod laws;
 mod limits;
+mod search;
+mod store;
 
 pub use fragment_out::FragmentOut;
 pub use fragmenter::Fragmenter;
