@@ -1,0 +1,13 @@
+pub mod Area
+pub mod Batch
+pub mod Begins
+pub mod Class
+pub mod FragmentOut
+pub mod Fragmenter
+pub mod Fragments
+pub mod Header
+pub mod Passage
+pub mod Search
+pub mod Settlement
+pub mod Store
+pub mod StoreCalls
