@@ -11,6 +11,9 @@ mod law;
 mod list_clock;
 mod list_words;
 mod listed;
+mod octets;
+mod place;
+mod ports;
 mod wires;
 mod words;
 
