@@ -5,3 +5,4 @@ pub mod Port
 pub mod Place
 pub mod Ports
 pub mod PortsState
+pub mod Journal

@@ -7,6 +7,7 @@
 #![tactic(auto)]
 
 mod clock;
+mod journal;
 mod law;
 mod list_clock;
 mod list_words;

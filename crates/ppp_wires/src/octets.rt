@@ -2,6 +2,24 @@
 
 ghost use Rattle.std.specs.Prelude.{◌≡◌, ◌-◌, ◌+◌, ◌≤◌, ◌++◌, length, min, take, drop, vec_len, vec_capacity};
 
+/// How many octets are held.
+pub(crate) fn count_of(held: &Vec<u8>) -> usize
+    ensures count { result ≡ length held.now.items }
+    ensures length { result ≡ vec_len held.now }
+{
+    held.as_slice().len()
+}
+
+/// Puts these octets behind what is held.
+pub(crate) fn put_all(held: &mut Vec<u8>, octets: &[u8])
+    requires { vec_len held.old + length octets.now ≤ vec_capacity held.old }
+    ensures octets { held.new.items ≡ held.old.items ++ octets.now }
+    ensures length { vec_len held.new ≡ vec_len held.old + length octets.now }
+    ensures capacity { vec_capacity held.old ≤ vec_capacity held.new }
+{
+    held.extend_from_slice(octets).unwrap();
+}
+
 /// Puts these octets in the place of what was held.
 pub(crate) fn refill(held: &mut Vec<u8>, octets: &[u8])
     requires { length octets.now ≤ vec_capacity held.old }
@@ -9,7 +27,7 @@ pub(crate) fn refill(held: &mut Vec<u8>, octets: &[u8])
     ensures capacity { vec_capacity held.old ≤ vec_capacity held.new }
 {
     held.clear();
-    held.extend_from_slice(octets).unwrap();
+    put_all(held, octets);
 }
 
 /// Puts the first of `piece` behind what is held, as many as there is room for, and answers how many.
@@ -22,7 +40,7 @@ pub(crate) fn keep(held: &mut Vec<u8>, room: usize, piece: &[u8]) -> usize
     ensures reserved { room ≤ vec_capacity held.new }
 {
     let count = piece.len().min(room - held.len());
-    held.extend_from_slice(&piece[..count]).unwrap();
+    put_all(held, &piece[..count]);
     count
 }
 
