@@ -1,3 +1,4 @@
 pub mod ListedLemmas
 pub mod PortsLemmas
 pub mod JournalLemmas
+pub mod ConnectedLemmas

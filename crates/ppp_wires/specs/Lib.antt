@@ -6,3 +6,5 @@ pub mod Place
 pub mod Ports
 pub mod PortsState
 pub mod Journal
+pub mod SureWires
+pub mod MemWires
