@@ -1,0 +1,4 @@
+pub mod ListedLemmas
+pub mod PortsLemmas
+pub mod JournalLemmas
+pub mod ConnectedLemmas

@@ -1,0 +1,10 @@
+pub mod Made
+pub mod Wires
+pub mod Listed
+pub mod Port
+pub mod Place
+pub mod Ports
+pub mod PortsState
+pub mod Journal
+pub mod SureWires
+pub mod MemWires
