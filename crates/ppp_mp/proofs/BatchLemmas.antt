@@ -1,7 +1,7 @@
 -- What is put behind a list of packets leaves those before as they are.
-use Rattle.std.proofs.Common.{◌≡◌, ℕ, zero, suc, ◌+◌, ◌-◌, ◌<◌, ◌≤◌, List, [], ◌∷◌, ◌++◌, length, take, drop, map, refl, ap, sym, ◌∙◌, subst, arith, length-append, length-drop}
+use Rattle.std.proofs.Common.{◌≡◌, ℕ, ◌+◌, ◌-◌, ◌≤◌, List, [], ◌∷◌, ◌++◌, length, take, drop, map, refl, ap, ◌∙◌, arith, length-drop}
 use Rattle.std.specs.List.{AllByRecursion}
-use Rattle.std.proofs.lemmas.List.{take-append-le, drop-append-le, map-append, take_rest, drop_all}
+use Rattle.std.proofs.lemmas.List.{take-append-le, drop-append-le, map-append, take_rest}
 use Rattle.ppp_mp.specs.Batch.{LiesBelow, Packet, packet_seen, sizes_in, span_seen}
 use Rattle.ppp_mp.specs.declared.batch.Span.{Span}
 

@@ -1,11 +1,11 @@
 -- What a class delivers begins as some fragment did.
-use Rattle.std.proofs.Common.{◌≡◌, ℕ, zero, suc, ◌+◌, ◌-◌, Bool, true, false, not, if◌then◌else◌, ◌==◌, List, [], ◌∷◌, ◌++◌, length, map, refl, arith}
+use Rattle.std.proofs.Common.{◌≡◌, ℕ, zero, suc, ◌+◌, Bool, true, false, not, if◌then◌else◌, ◌==◌, List, [], ◌∷◌, ◌++◌, length, map, refl}
 use Rattle.std.specs.Prelude.{IsTrue, nat_le, nat_lt}
 use Rattle.std.specs.List.{AllByRecursion}
 use Rattle.ppp_mp.specs.Begins.{AllBeginSo, BeginsSo, IsOfFronts, TookSo}
-use Rattle.ppp_mp.specs.Class.{Class, Shape, Took, ahead, discarded, has_room, held_as, is_discarded, least, lowered, next_at, put, received, room_of, row_with, turned_as, turns_of}
+use Rattle.ppp_mp.specs.Class.{Class, Shape, ahead, discarded, has_room, held_as, is_discarded, lowered, next_at, put, received, room_of, row_with, turned_as, turns_of}
 use Rattle.ppp_mp.specs.Fragments.{Fragment, Numbered}
-use Rattle.ppp_mp.specs.Settlement.{Move, Row, Run, Settled, at_first, by_run, given, least_held, move, moved, past_missing, points_of, run_from, settle, settled}
+use Rattle.ppp_mp.specs.Settlement.{Move, Row, Run, Settled, at_first, by_run, given, least_held, move, moved, past_missing, run_from, settle}
 use Rattle.ppp_mp.specs.Settlement.Run.{Whole, Again, Gap}
 use Rattle.ppp_mp.specs.Settlement.Move.{Still, To}
 

@@ -1,6 +1,6 @@
 -- The fragments of a packet on the wire, and their numbers.
-use Rattle.std.proofs.Common.{◌≡◌, ℕ, zero, suc, ◌+◌, ◌-◌, ◌*◌, ◌%◌, ◌<◌, ◌≤◌, ◌⊎◌, inl, inr, Bool, true, false, if◌then◌else◌, List, [], ◌∷◌, ◌++◌, length, take, drop, map, refl, ap, sym, ◌∙◌, subst, arith, length-append, append_assoc, length-take, length-drop}
-use Rattle.std.specs.Prelude.{nat_le, ◌==◌}
+use Rattle.std.proofs.Common.{◌≡◌, ℕ, zero, suc, ◌+◌, ◌-◌, ◌*◌, ◌%◌, ◌<◌, ◌≤◌, ◌⊎◌, inl, inr, Bool, true, false, List, [], ◌∷◌, ◌++◌, length, take, drop, map, refl, ap, ◌∙◌, arith, length-append, append_assoc, length-take, length-drop}
+use Rattle.std.specs.Prelude.{◌==◌}
 use Rattle.std.proofs.lemmas.Bool.{cases_lt, le-leb, lt-leb, ne_eqb}
 use Rattle.std.proofs.lemmas.List.{drop-drop, length-map}
 use Rattle.std.proofs.Math.Nat.{add-mul, le-mul_of_pos_right, mul-le-mul_right}
@@ -9,7 +9,7 @@ use Rattle.ppp_mp.specs.Batch.{Packet, sizes_in}
 use Rattle.ppp_mp.specs.FragmentOut.{all_octets, octets_of}
 use Rattle.ppp_mp.specs.Fragmenter.{IsFragmenter, framed_from}
 use Rattle.ppp_mp.specs.Fragments.{Fragment, fragments_of, pieces}
-use Rattle.ppp_mp.specs.Header.{framed, header_octets, size_of, space_of}
+use Rattle.ppp_mp.specs.Header.{header_octets, space_of}
 use Rattle.ppp_mp.specs.declared.header.Header.{Header}
 
 pub reduced-fit : (short : Bool) (numbers : List ℕ) → AllByRecursion (λ n. n < space_of short) (map (λ n. n % space_of short) numbers)

@@ -1,11 +1,7 @@
-pub mod AreaLemmas
 pub mod BatchLemmas
 pub mod BeginsLemmas
 pub mod FragmenterLemmas
 pub mod FragmentsLemmas
 pub mod HeaderLemmas
-pub mod MoveLemmas
 pub mod PassageLemmas
-pub mod SearchLemmas
 pub mod SettlementLemmas
-pub mod StoreLemmas

@@ -1,17 +1,17 @@
 -- What a class delivers in one life is what was sent.
-use Rattle.std.proofs.Common.{◌≡◌, ℕ, zero, suc, ◌+◌, ◌-◌, ◌*◌, ◌/◌, ◌%◌, ◌<◌, ◌≤◌, ◌⊎◌, inl, inr, min, Bool, true, false, if◌then◌else◌, ◌==◌, ◌||◌, List, [], ◌∷◌, ◌++◌, length, map, take, drop, refl, ap, sym, ◌∙◌, subst, arith, append_assoc, append-nil, length-append}
+use Rattle.std.proofs.Common.{◌≡◌, ℕ, zero, suc, ◌+◌, ◌-◌, ◌*◌, ◌/◌, ◌%◌, ◌<◌, ◌≤◌, inl, inr, min, Bool, true, false, if◌then◌else◌, ◌==◌, ◌||◌, List, [], ◌∷◌, ◌++◌, length, map, take, drop, refl, ap, sym, ◌∙◌, subst, arith, append-nil, length-append}
 use Rattle.std.specs.Prelude.{Option, Some, None, nat_le, nat_lt, slice_get, slice_set, remove, MatchOption, ⊤}
 use Rattle.std.specs.List.{AllByRecursion}
 use Rattle.std.proofs.lemmas.Bool.{eqb-false, leb-false, ltb-true, ltb-false, or_parts}
 use Rattle.std.proofs.lemmas.List.{drop_at, take-append-le}
 use Rattle.std.proofs.lemmas.Option.{none-some, same_Some, slice_get_within}
-use Rattle.ppp_mp.specs.Class.{Class, Shape, Took, ahead, discarded, held_as, is_discarded, is_held, is_late, least, lowered, next_at, put, received, room_of, row_with, has_room, turned, turned_as, turns_of}
+use Rattle.ppp_mp.specs.Class.{Class, Shape, Took, ahead, discarded, held_as, is_discarded, is_held, is_late, least, lowered, next_at, put, received, room_of, row_with, has_room, turned, turns_of}
 use Rattle.ppp_mp.specs.Fragments.{AreSome, Fragment, Numbered, fragments_of, packets, pieces}
-use Rattle.ppp_mp.specs.Passage.{Event, InOrder, IsNarrow, IsNear, IsNearNext, IsSpace, Passage, StaysNarrow, after, after_all, comes, numbered, unsent, with_took}
+use Rattle.ppp_mp.specs.Passage.{Event, InOrder, IsNarrow, IsNear, IsNearNext, IsSpace, Passage, StaysNarrow, after, after_all, comes, numbered, unsent}
 use Rattle.ppp_mp.specs.Passage.Event.{Cut, Comes, Lost, Joins, Leaves, NewLife}
-use Rattle.ppp_mp.specs.Settlement.{AreRising, Row, Settled, points_of, settle, settled}
+use Rattle.ppp_mp.specs.Settlement.{AreRising, Row, points_of, settled}
 use Rattle.ppp_mp.proofs.FragmentsLemmas.{begun_by, cut-packets, done, done-all, done-later, more_from, packets-append, some-both, some-more}
-use Rattle.ppp_mp.proofs.SettlementLemmas.{AreOf, Gave, GoodSettled, IsFrom, settle-good}
+use Rattle.ppp_mp.proofs.SettlementLemmas.{AreOf, GoodSettled, IsFrom, settle-good}
 
 -- ---- numbers
 

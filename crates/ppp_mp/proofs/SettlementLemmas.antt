@@ -1,13 +1,13 @@
 -- Each point of the settlement keeps to what was sent.
-use Rattle.std.proofs.Common.{◌≡◌, ℕ, zero, suc, ◌+◌, ◌-◌, ◌<◌, ◌≤◌, ◌⊎◌, inl, inr, min, Bool, true, false, not, if◌then◌else◌, ◌==◌, List, [], ◌∷◌, ◌++◌, length, refl, ap, sym, ◌∙◌, subst, arith, append_assoc, append-nil}
+use Rattle.std.proofs.Common.{◌≡◌, ℕ, zero, suc, ◌+◌, ◌≤◌, inl, min, Bool, true, false, not, if◌then◌else◌, ◌==◌, List, [], ◌∷◌, ◌++◌, length, refl, ap, sym, ◌∙◌, subst, arith, append_assoc, append-nil}
 use Rattle.std.specs.Prelude.{Some, nat_le, nat_lt, slice_get}
-use Rattle.std.proofs.lemmas.Bool.{eqb-true, eqb-false, ltb-true, not-true, not-false}
+use Rattle.std.proofs.lemmas.Bool.{eqb-true, ltb-true}
 use Rattle.std.proofs.lemmas.Option.{slice_get_within}
 use Rattle.ppp_mp.specs.Fragments.{AreSome, Fragment, Numbered}
-use Rattle.ppp_mp.specs.Settlement.{AreRising, Move, Row, Run, Settled, at_first, by_run, given, least_held, move, moved, past_missing, points_of, run_from, settle, settled}
+use Rattle.ppp_mp.specs.Settlement.{AreRising, Move, Row, Run, Settled, at_first, by_run, given, least_held, move, moved, past_missing, run_from, settle}
 use Rattle.ppp_mp.specs.Settlement.Run.{Whole, Again, Gap}
 use Rattle.ppp_mp.specs.Settlement.Move.{Still, To}
-use Rattle.ppp_mp.proofs.FragmentsLemmas.{alone-done, begun_at, done, done-later, first-begun, last-done, middle-begun, more_from, some-both, some-more, unended-done}
+use Rattle.ppp_mp.proofs.FragmentsLemmas.{alone-done, begun_at, done, done-later, first-begun, last-done, middle-begun, more_from, some-both, unended-done}
 
 -- each is a fragment that was sent, with its number less c
 abbrev pub AreOf : List Fragment → ℕ → List Numbered → Type 0

@@ -1,5 +1,5 @@
 -- One class of fragments at its receiver (RFC 1990 section 4.1, RFC 2686 section 4; the rule is this project's own).
-use Rattle.std.specs.Prelude.{ℕ, ◌+◌, ◌-◌, ◌*◌, ◌/◌, ◌%◌, min, Bool, ◌==◌, ◌&&◌, ◌||◌, not, if◌then◌else◌, nat_le, nat_lt, List, [], ◌∷◌, ◌++◌, length, map, replicate, slice_set, Option, Some, None, unwrap_or}
+use Rattle.std.specs.Prelude.{ℕ, ◌+◌, ◌-◌, ◌*◌, ◌/◌, ◌%◌, min, Bool, ◌==◌, ◌&&◌, ◌||◌, if◌then◌else◌, nat_le, nat_lt, List, [], ◌∷◌, length, map, replicate, slice_set, Option, Some, None, unwrap_or}
 use Rattle.std.specs.List.{list_any}
 use Rattle.ppp_mp.specs.Fragments.{Fragment, Numbered}
 use Rattle.ppp_mp.specs.Settlement.{Row, Settled, settled}

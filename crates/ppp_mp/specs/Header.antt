@@ -1,6 +1,6 @@
 -- The header of a fragment (RFC 1990 section 3), with a class (RFC 2686 section 4): four octets in the long form, two in
 -- the short one.
-use Rattle.std.specs.Prelude.{ℕ, ◌+◌, ◌*◌, ◌/◌, ◌%◌, ◌<◌, Bool, true, false, nat_le, if◌then◌else◌, List, [], ◌∷◌, ◌++◌, Option, Some, None}
+use Rattle.std.specs.Prelude.{ℕ, ◌+◌, ◌*◌, ◌/◌, ◌%◌, ◌<◌, Bool, true, false, nat_le, List, [], ◌∷◌, ◌++◌, Option, Some, None}
 use Rattle.ppp_mp.specs.Fragments.{Fragment}
 use Rattle.ppp_mp.specs.declared.header.Header.{Header}
 use Rattle.ppp_mp.specs.declared.limits.TheConstants.{LONG_CLASSES, LONG_SPACE, SHORT_CLASSES, SHORT_SPACE}

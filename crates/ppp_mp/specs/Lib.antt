@@ -1,4 +1,3 @@
-pub mod Area
 pub mod Batch
 pub mod Begins
 pub mod Class
@@ -7,7 +6,4 @@ pub mod Fragmenter
 pub mod Fragments
 pub mod Header
 pub mod Passage
-pub mod Search
 pub mod Settlement
-pub mod Store
-pub mod StoreCalls

@@ -1,5 +1,5 @@
 -- The fragments of one class on their way, and what its receiver delivers in one life.
-use Rattle.std.specs.Prelude.{◌≡◌, ℕ, suc, ◌+◌, ◌-◌, ◌*◌, ◌/◌, ◌%◌, ◌<◌, ◌⊎◌, ⊤, Bool, true, false, List, [], ◌∷◌, ◌++◌, length, remove, replicate, slice_get, slice_set, Option, Some, None, MatchOption}
+use Rattle.std.specs.Prelude.{◌≡◌, ℕ, suc, ◌+◌, ◌-◌, ◌/◌, ◌%◌, ◌<◌, ◌⊎◌, ⊤, Bool, true, false, List, [], ◌∷◌, ◌++◌, length, remove, replicate, slice_get, slice_set, Option, Some, None, MatchOption}
 use Rattle.std.specs.List.{AllByRecursion}
 use Rattle.ppp_mp.specs.Fragments.{AreSome, Fragment, Numbered, fragments_of}
 use Rattle.ppp_mp.specs.Class.{Class, Shape, Took, class_begun, forgotten, received}

@@ -1,5 +1,5 @@
 -- What a class settles: what it delivers and what it gives up (RFC 1990 section 4.1; the rule's points are this project's own).
-use Rattle.std.specs.Prelude.{ℕ, zero, suc, ◌+◌, ◌*◌, ◌≤◌, min, Bool, ◌==◌, not, if◌then◌else◌, nat_le, nat_lt, List, [], ◌∷◌, ◌++◌, length}
+use Rattle.std.specs.Prelude.{ℕ, zero, suc, ◌+◌, ◌*◌, ◌≤◌, min, ◌==◌, not, if◌then◌else◌, nat_le, nat_lt, List, [], ◌∷◌, ◌++◌, length}
 use Rattle.ppp_mp.specs.Fragments.{Numbered}
 
 -- the least number that isn't settled, and what is held from there on, in ascending number

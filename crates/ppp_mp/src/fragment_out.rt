@@ -13,7 +13,7 @@ use std::alloc::Global;
 use std::marker::Model;
 
 /// The octets of all fragments of one packet, with their headers.
-pub(crate) const MOST_OCTETS: usize = MOST_PACKET + 4 * MOST_HELD;
+pub const MOST_OCTETS: usize = MOST_PACKET + 4 * MOST_HELD;
 
 /// A list of at most 256 fragments, each with its header. It is seen as the list of their octets.
 #[derive(Drop)]

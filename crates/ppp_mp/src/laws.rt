@@ -6,6 +6,8 @@ ghost use Rattle.ppp_mp.specs.Class.{Class, Shape, received};
 ghost use Rattle.ppp_mp.specs.Fragments.{Fragment, fragments_of, packets};
 ghost use Rattle.ppp_mp.specs.Header.{IsHeaderOf, header_octets, header_of, size_of};
 ghost use Rattle.ppp_mp.specs.declared.header.Header.{Header};
+ghost use Rattle.ppp_mp.specs.declared.fragment_out.TheConstants.{MOST_OCTETS};
+ghost use Rattle.ppp_mp.specs.declared.limits.TheConstants.{CLASSES, LONG_CLASSES, LONG_SPACE, MOST_HELD, MOST_LINKS, MOST_PACKET, SHORT_CLASSES, SHORT_SPACE};
 ghost use Rattle.ppp_mp.specs.Passage.{Event, InOrder, IsSpace};
 
 /// Does nothing. Its clause is the law of one class: each packet that it delivers in one life is one that was cut since the
@@ -34,4 +36,20 @@ pub fn read_again()
         → header_of short (header_octets short h ++ rest) ≡ Some (h, size_of short) }
     ensures whole { (size : ℕ) (before packet : List ℕ)
         → packets before (fragments_of size packet) ≡ packet ∷ [] }
+{}
+
+/// Does nothing. Its clauses say the numbers that the formats and the rules fix.
+///
+/// - `long_classes`, `short_classes`, `long_space`, `short_space`: those of the two forms of a header.
+/// - `classes`, `links`, `held`, `packet`, `octets`: how much is numbered, joined, held, cut and written.
+pub fn numbers()
+    ensures long_classes { LONG_CLASSES ≡ 16 }
+    ensures short_classes { SHORT_CLASSES ≡ 4 }
+    ensures long_space { LONG_SPACE ≡ 16777216 }
+    ensures short_space { SHORT_SPACE ≡ 4096 }
+    ensures classes { CLASSES ≡ 16 }
+    ensures links { MOST_LINKS ≡ 16 }
+    ensures held { MOST_HELD ≡ 256 }
+    ensures packet { MOST_PACKET ≡ 8194 }
+    ensures octets { MOST_OCTETS ≡ 9218 }
 {}

@@ -1,6 +1,4 @@
-use Rattle.std.proofs.Common.{◌≡◌, ◌++◌, ◌∷◌, [], sym, ap, ◌∙◌, arith}
-use Rattle.ppp_mp.specs.Fragmenter.{framed_from}
-use Rattle.ppp_mp.specs.Fragments.{fragments_of}
+use Rattle.std.proofs.Common.{arith}
 use Rattle.ppp_mp.proofs.FragmenterLemmas.{cut-last, cut-more, number-after}
 use Rattle.ppp_mp.proofs.fragmenter.cut_from.Goals as goal
 

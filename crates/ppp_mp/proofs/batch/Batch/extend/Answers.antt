@@ -1,6 +1,6 @@
-use Rattle.std.proofs.Common.{◌≡◌, ◌+◌, ◌≤◌, ◌∷◌, ◌++◌, [], length, map, drop, sym, ap, subst, ◌∙◌, arith, length-append, ℕ, List}
+use Rattle.std.proofs.Common.{◌≡◌, ◌++◌, drop, ap, arith, length-append}
 use Rattle.std.proofs.lemmas.List.{drop-append-le}
-use Rattle.ppp_mp.specs.Batch.{BatchState, LiesBelow, Packet, octets_in, packet_seen, sizes_in, span_seen}
+use Rattle.ppp_mp.specs.Batch.{BatchState}
 use Rattle.ppp_mp.proofs.BatchLemmas.{spans-append}
 use Rattle.ppp_mp.proofs.batch.Batch.extend.Goals as goal
 

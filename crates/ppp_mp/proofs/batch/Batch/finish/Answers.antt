@@ -1,6 +1,5 @@
-use Rattle.std.proofs.Common.{◌≡◌, ◌+◌, ◌≤◌, ◌∷◌, ◌++◌, [], length, map, drop, sym, ap, subst, ◌∙◌, arith, length-drop, ℕ, List}
-use Rattle.std.specs.List.{AllByRecursion}
-use Rattle.ppp_mp.specs.Batch.{LiesBelow, Packet, packet_seen, sizes_in, span_seen}
+use Rattle.std.proofs.Common.{◌≡◌, ◌+◌, ◌≤◌, ◌∷◌, ◌++◌, [], length, map, drop, sym, ap, subst, ◌∙◌, arith, length-drop}
+use Rattle.ppp_mp.specs.Batch.{packet_seen, sizes_in, span_seen}
 use Rattle.ppp_mp.specs.declared.batch.Span.{Span}
 use Rattle.ppp_mp.proofs.BatchLemmas.{below-snoc, finished-is, sizes-append}
 use Rattle.ppp_mp.proofs.batch.Batch.finish.Goals as goal

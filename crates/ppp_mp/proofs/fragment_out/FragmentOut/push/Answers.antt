@@ -1,5 +1,4 @@
-use Rattle.std.proofs.Common.{◌≡◌, ◌+◌, ◌++◌, length, ap, sym, ◌∙◌, arith, length-append, ℕ}
-use Rattle.ppp_mp.specs.Batch.{BatchState, octets_in, sizes_in}
+use Rattle.std.proofs.Common.{length, ap, arith, length-append}
 use Rattle.ppp_mp.specs.FragmentOut.{all_octets}
 use Rattle.ppp_mp.specs.Header.{header_octets}
 use Rattle.ppp_mp.proofs.FragmenterLemmas.{all-octets, header-size}
